@@ -4,8 +4,15 @@ use Prim.Native.Nat.{ℕ, zero, suc, _+_, _/_, _%_, _^_, _<_}
 use mathlib.Core.Path.{_≡_}
 use mathlib.Core.Bool.{Bool, true, false, not, cond, _&&_, _||_}
 use mathlib.Core.List.{List, [], _∷_}
+use mathlib.Core.Logic.{_⊎_}
 use lib.Dec.{T, eqb, ltb}
 use lib.ListN.{length}
+
+-- x stands in the list.
+infix 40 _∈_
+abbrev pub _∈_ : ℕ → List ℕ → Type 0
+x ∈ [] = ⊥
+x ∈ (y ∷ ys) = (x ≡ y) ⊎ (x ∈ ys)
 
 -- Is i a member of the set s?
 abbrev pub member : ℕ → ℕ → Bool

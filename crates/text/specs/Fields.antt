@@ -1,0 +1,32 @@
+-- The fields of a line (document 01: every space ends a field; `preds` splits again at commas).
+use Prim.Native.Nat.{ℕ, zero, suc, _+_}
+use mathlib.Core.Bool.{Bool, true, false, cond, _&&_}
+use mathlib.Core.List.{List, [], _∷_}
+use lib.Dec.{eqb, ltb}
+use lib.ListN.{length, getD}
+use Rattle.text.specs.Split.{split}
+use Rattle.text.specs.declared.fields.Field.{Field}
+use Rattle.text.specs.declared.fields.Field.the-variants.{At, Missing}
+
+-- The first field: what stands before the first separator.
+abbrev pub firstPart : ℕ → List ℕ → List ℕ
+firstPart b l = getD (split b l) 0 []
+
+-- Where a part begins in the whole: after the parts before it, and a separator after each.
+unfoldable pub partStart : List (List ℕ) → ℕ → ℕ
+partStart ps zero = 0
+partStart [] (suc i) = 0
+partStart (p ∷ ps) (suc i) = length p + 1 + partStart ps i
+
+abbrev pub partAt : List (List ℕ) → ℕ → Field
+partAt ps i = cond (ltb i (length ps)) (At (partStart ps i) (partStart ps i + length (getD ps i []))) Missing
+
+-- Where the field with index i begins and ends in its line.
+abbrev pub fieldOf : ℕ → List ℕ → ℕ → Field
+fieldOf b l i = partAt (split b l) i
+
+unfoldable pub sameBytes : List ℕ → List ℕ → Bool
+sameBytes [] [] = true
+sameBytes [] (y ∷ ys) = false
+sameBytes (x ∷ xs) [] = false
+sameBytes (x ∷ xs) (y ∷ ys) = eqb x y && sameBytes xs ys

@@ -1,0 +1,51 @@
+-- A number (document 01, "Texts"): decimal, without a leading zero, up to a largest one.
+use Prim.Native.Nat.{ℕ, zero, suc, _+_, _-_, _*_, _/_, _%_}
+use mathlib.Core.Bool.{Bool, true, false, not, cond, _&&_}
+use mathlib.Core.List.{List, [], _∷_, _++_}
+use mathlib.Core.Option.{Option, none, some}
+use lib.Dec.{leb, ltb, eqb}
+use Rattle.text.specs.declared.numbers.Number.{Number}
+use Rattle.text.specs.declared.numbers.Number.the-variants.{Value, Malformed}
+
+-- A digit's byte, 48 to 57.
+abbrev pub digit : ℕ → Bool
+digit b = leb 48 b && leb b 57
+
+unfoldable pub digits : List ℕ → Bool
+digits [] = true
+digits (b ∷ bs) = digit b && digits bs
+
+-- The value of digits, after those whose value is v.
+unfoldable pub valueFrom : ℕ → List ℕ → ℕ
+valueFrom v [] = v
+valueFrom v (b ∷ bs) = valueFrom (v * 10 + (b - 48)) bs
+
+-- At least one byte, and no zero in front of another.
+abbrev pub plain : List ℕ → Bool
+plain [] = false
+plain (b ∷ []) = true
+plain (b ∷ (d ∷ bs)) = not (eqb b 48)
+
+-- The number that the bytes spell, if they spell one that is at most `most`.
+unfoldable pub decimal : ℕ → List ℕ → Option ℕ
+decimal most bs = cond (plain bs && digits bs && leb (valueFrom 0 bs) most) (some (valueFrom 0 bs)) none
+
+-- The largest number of document 01's texts.
+abbrev pub largest : ℕ
+largest = 65535
+
+abbrev pub answer : Option ℕ → Number
+answer none = Malformed
+answer (some n) = Value n
+
+abbrev pub numberOf : List ℕ → Number
+numberOf bs = answer (decimal largest bs)
+
+-- The spelling of a number in at most d digits.
+unfoldable pub spellIn : ℕ → ℕ → List ℕ
+spellIn zero n = []
+spellIn (suc d) n = let front = spellIn d (n / 10) in cond (ltb n 10) ((48 + n) ∷ []) (front ++ ((48 + n % 10) ∷ []))
+
+-- The spelling of a number. A number never has more digits than its successor counts.
+abbrev pub spell : ℕ → List ℕ
+spell n = spellIn (suc n) n
