@@ -22,7 +22,7 @@ proceed n (refused k) go = faulty k n
 proceed n (passed s) go = go s
 
 -- The lines from the n-th on, where s is known before them.
-unfoldable pub walk : {S : Type 0} → (S → ℕ → TextLine → Judged S) → S → ℕ → List TextLine → Outcome S
+unfoldable pub walk : {S L : Type 0} → (S → ℕ → L → Judged S) → S → ℕ → List L → Outcome S
 walk judge s n [] = accepted s
 walk judge s n (l ∷ ls) = proceed n (judge s n l) (λ t. walk judge t (n + 1) ls)
 

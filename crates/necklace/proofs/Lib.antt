@@ -1,0 +1,13 @@
+pub mod Cases
+pub mod Lists
+pub mod Paths
+pub mod Backward
+pub mod Modalities
+pub mod Prefixes
+pub mod RowMeaning
+pub mod Rooted
+pub mod EqualPasts
+pub mod OnlyAdds
+pub mod Duality
+pub mod Tests
+pub mod CasesWellFormed

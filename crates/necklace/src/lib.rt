@@ -1,0 +1,1 @@
+// The theory has no code.

@@ -1,0 +1,4 @@
+// The pattern reader.
+pub fn zero() -> u16 {
+    0
+}
