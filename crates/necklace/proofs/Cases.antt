@@ -7,7 +7,7 @@ use Rattle.sets.specs.Sets.{setOf, someBelow}
 use Rattle.necklace.specs.Automaton.{Automaton}
 use Rattle.necklace.specs.Necklace.{SOME, ALL, Primitive}
 use Rattle.necklace.specs.Compute.{row, prefixes, pivots, before, seek, holds?, some?, all?, backward, pass}
-use Rattle.necklace.specs.Listed.{dagOf, automatonOf, bead, patternOf}
+use Rattle.necklace.specs.Listed.{listedDag, listedAutomaton, bead, listedPattern}
 
 -- A dag and a pattern, given by lists; a vertex, and its ten numbers.
 pub record Case : Type 0 where
@@ -18,7 +18,7 @@ pub record Case : Type 0 where
 
 -- The row that is computed.
 abbrev pub rowOf : Case → List ℕ
-rowOf c = row (dagOf (c .dag)) (patternOf (c .pattern)) (c .vertex)
+rowOf c = row (listedDag (c .dag)) (listedPattern (c .pattern)) (c .vertex)
 
 -- ten numbers, zeros at the end
 abbrev ten : List ℕ → List ℕ
@@ -39,18 +39,18 @@ listing =
 
 -- words that end in vac
 abbrev pub first-automaton : Automaton
-first-automaton = automatonOf (((0 ∷ 1 ∷ []) ∷ (0 ∷ []) ∷ (0 ∷ []) ∷ []) ∷ ([] ∷ [] ∷ [] ∷ []) ∷ []) (1 ∷ [])
+first-automaton = listedAutomaton (((0 ∷ 1 ∷ []) ∷ (0 ∷ []) ∷ (0 ∷ []) ∷ []) ∷ ([] ∷ [] ∷ [] ∷ []) ∷ []) (1 ∷ [])
 
 abbrev second-next : List (List (List ℕ))
 second-next = ((0 ∷ []) ∷ (0 ∷ []) ∷ (1 ∷ []) ∷ []) ∷ ((1 ∷ []) ∷ (1 ∷ []) ∷ (1 ∷ []) ∷ []) ∷ []
 
 -- words without vent
 abbrev pub second-automaton : Automaton
-second-automaton = automatonOf second-next (0 ∷ [])
+second-automaton = listedAutomaton second-next (0 ∷ [])
 
 -- words with vent: state 0 does not accept
 abbrev pub vented : Automaton
-vented = automatonOf second-next (1 ∷ [])
+vented = listedAutomaton second-next (1 ∷ [])
 
 abbrev pub two-beads : List Primitive
 two-beads = bead SOME first-automaton ∷ bead ALL second-automaton ∷ []

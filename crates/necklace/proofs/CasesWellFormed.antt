@@ -5,7 +5,7 @@ use lib.Dec.{T}
 use Rattle.sets.proofs.Truth.{and-l, and-r}
 use Rattle.necklace.specs.Dag.{WellFormed}
 use Rattle.necklace.specs.Necklace.{WellFormedPattern}
-use Rattle.necklace.specs.Listed.{dagOf, patternOf}
+use Rattle.necklace.specs.Listed.{listedDag, listedPattern}
 use Rattle.necklace.specs.Tests.{wellFormed?, wellFormedPattern?, oneNext?, everyBelow}
 use Rattle.necklace.proofs.Cases.{Case, cases, slips}
 use Rattle.necklace.proofs.Tests.{listed-well-formed, wellFormedPattern-agrees}
@@ -15,10 +15,10 @@ EveryCase Q [] = Unit {0}
 EveryCase Q (c ∷ cs) = Q c × EveryCase Q cs
 
 abbrev pub CaseWellFormed : Case → Type 0
-CaseWellFormed c = WellFormed 3 (dagOf (c .dag)) × WellFormedPattern 3 (patternOf (c .pattern))
+CaseWellFormed c = WellFormed 3 (listedDag (c .dag)) × WellFormedPattern 3 (listedPattern (c .pattern))
 
 case? : Case → Bool
-case? c = wellFormed? 3 (dagOf (c .dag)) && wellFormedPattern? 3 (patternOf (c .pattern))
+case? c = wellFormed? 3 (listedDag (c .dag)) && wellFormedPattern? 3 (listedPattern (c .pattern))
 
 every? : List Case → Bool
 every? [] = true
@@ -28,8 +28,8 @@ every-well-formed : (cs : List Case) → T (every? cs) → EveryCase CaseWellFor
 unfolding every? case?
 every-well-formed [] t = tt
 every-well-formed (c ∷ cs) t =
-    let G = dagOf (c .dag) in
-    let P = patternOf (c .pattern) in
+    let G = listedDag (c .dag) in
+    let P = listedPattern (c .pattern) in
     let k = and-l (case? c) (every? cs) t in (
       (
         listed-well-formed 3 (c .dag) (and-l (wellFormed? 3 G) (wellFormedPattern? 3 P) k),

@@ -11,7 +11,7 @@ use Rattle.necklace.specs.Automaton.{Automaton}
 use Rattle.necklace.specs.Necklace.{Some, All, SOME, ALL, Pattern, WellFormedPattern}
 use Rattle.necklace.specs.Past.{OnlyAdds}
 use Rattle.necklace.specs.Compute.{row, prefixes, pivots, before, seek, holds?, some?, backward, pass}
-use Rattle.necklace.specs.Listed.{dagOf, automatonOf, bead, patternOf}
+use Rattle.necklace.specs.Listed.{listedDag, listedAutomaton, bead, listedPattern}
 use Rattle.necklace.proofs.Paths.{route-lt, route-inside}
 use Rattle.necklace.proofs.RowMeaning.{first-bit}
 use Rattle.necklace.proofs.Rooted.{rooted}
@@ -57,14 +57,14 @@ module _ {c : ℕ} {G H : Dag} (g : WellFormed c G) (h : WellFormed c H) {P : Pa
 
 -- A first label on a bare vertex takes the empty letter away, and a SOME is lost: every edge and label of `bare` stands in `labelled`.
 abbrev pub bare : Dag
-bare = dagOf (([], []) ∷ ([], 0 ∷ []) ∷ [])
+bare = listedDag (([], []) ∷ ([], 0 ∷ []) ∷ [])
 
 abbrev pub labelled : Dag
-labelled = dagOf (([], []) ∷ (0 ∷ [], 0 ∷ []) ∷ [])
+labelled = listedDag (([], []) ∷ (0 ∷ [], 0 ∷ []) ∷ [])
 
 -- state 0 accepts, and every letter leads to state 1, which does not
 abbrev pub no-letter : Pattern
-no-letter = patternOf (bead SOME (automatonOf (((1 ∷ []) ∷ []) ∷ ((1 ∷ []) ∷ []) ∷ []) (0 ∷ [])) ∷ [])
+no-letter = listedPattern (bead SOME (listedAutomaton (((1 ∷ []) ∷ []) ∷ ((1 ∷ []) ∷ []) ∷ []) (0 ∷ [])) ∷ [])
 
 pub first-label-loses : (row bare no-letter 1 ≡ 1 ∷ 0 ∷ 1 ∷ replicate 7 0) × (row labelled no-letter 1 ≡ replicate 10 0)
 unfolding row prefixes pivots before seek holds? some? backward pass setOf someBelow

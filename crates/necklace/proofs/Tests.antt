@@ -16,7 +16,7 @@ use Rattle.necklace.specs.Automaton.{Automaton, Run, stay, move, Accepts
 use Rattle.necklace.specs.Necklace.{Modality, SOME, ALL, Pattern, WellFormedPattern}
 use Rattle.necklace.specs.Past.{Past, SameMembers, Alike, OnlyAdds}
 use Rattle.necklace.specs.Compute.{someOf, elem}
-use Rattle.necklace.specs.Listed.{dagOf}
+use Rattle.necklace.specs.Listed.{listedDag}
 use Rattle.necklace.specs.Tests.{implies, everyOf, everyBelow, empty, includes, sameMembers?, path?, anyWord, route?, reading?}
 use Rattle.necklace.specs.Tests.{wellFormedAt, wellFormed?, acceptsFrom, accepts?, oneBelow, oneNext?, isAll, differ}
 use Rattle.necklace.specs.Tests.{wellFormedBead, wellFormedPattern?, past?, alikeAt, alike?, onlyAddsAt, onlyAdds?}
@@ -235,9 +235,9 @@ wellFormed-agrees c G inner named = (λ t. out (parts .0 t), λ g. parts .1 (int
         pick v l (no z) = inr (g .linked v l z)
 
 -- of a dag given by a list
-pub listed-well-formed : (c : ℕ) (vs : List (List ℕ × List ℕ)) → T (wellFormed? c (dagOf vs)) → WellFormed c (dagOf vs)
+pub listed-well-formed : (c : ℕ) (vs : List (List ℕ × List ℕ)) → T (wellFormed? c (listedDag vs)) → WellFormed c (listedDag vs)
 listed-well-formed c vs t =
-    wellFormed-agrees c (dagOf vs) (λ u v m. inside v (λ z. past-preds v u z m)) (λ v a m. inside v (λ z. past-labels v a z m)) .0 t
+    wellFormed-agrees c (listedDag vs) (λ u v m. inside v (λ z. past-preds v u z m)) (λ v a m. inside v (λ z. past-labels v a z m)) .0 t
   where
     inside : (v : ℕ) → (length vs ≤ v → ⊥) → v < length vs
     inside v f = lt-of-not-le f
