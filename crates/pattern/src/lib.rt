@@ -1,4 +1,0 @@
-// The pattern reader.
-pub fn zero() -> u16 {
-    0
-}
