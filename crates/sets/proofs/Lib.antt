@@ -1,3 +1,4 @@
 pub mod Truth
 pub mod Bits
 pub mod Laws
+pub mod Below

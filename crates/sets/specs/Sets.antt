@@ -58,6 +58,11 @@ unfoldable pub someBelow : ℕ → (ℕ → Bool) → Bool
 someBelow zero f = false
 someBelow (suc n) f = someBelow n f || f n
 
+-- All numbers below n pass.
+unfoldable pub allBelow : ℕ → (ℕ → Bool) → Bool
+allBelow zero f = true
+allBelow (suc n) f = allBelow n f && f n
+
 abbrev pub overlaps : ℕ → ℕ → ℕ → Bool
 overlaps n s t = someBelow n (λ i. member i s && member i t)
 

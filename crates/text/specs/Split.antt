@@ -18,3 +18,7 @@ unfoldable pub joined : ℕ → List (List ℕ) → List ℕ
 joined b [] = []
 joined b (p ∷ []) = p
 joined b (p ∷ (q ∷ ps)) = p ++ (b ∷ joined b (q ∷ ps))
+
+-- A line of these fields, parted by spaces, with its newline.
+abbrev pub lineFrom : List (List ℕ) → List ℕ
+lineFrom fs = joined 32 fs ++ (10 ∷ [])
