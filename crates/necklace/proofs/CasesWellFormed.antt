@@ -6,7 +6,8 @@ use Rattle.sets.proofs.Truth.{and-l, and-r}
 use Rattle.necklace.specs.Dag.{WellFormed}
 use Rattle.necklace.specs.Necklace.{WellFormedPattern}
 use Rattle.necklace.specs.Listed.{listedDag, listedPattern}
-use Rattle.necklace.specs.Tests.{wellFormed?, wellFormedPattern?, oneNext?, everyBelow}
+use Rattle.sets.specs.Sets.{allBelow}
+use Rattle.necklace.specs.Tests.{wellFormed?, wellFormedPattern?, oneNext?}
 use Rattle.necklace.proofs.Cases.{Case, cases, slips}
 use Rattle.necklace.proofs.Tests.{listed-well-formed, wellFormedPattern-agrees}
 
@@ -39,7 +40,7 @@ every-well-formed (c ∷ cs) t =
     )
 
 computed : T (every? (cases ++ slips))
-unfolding every? case? cases slips wellFormed? wellFormedPattern? oneNext? everyBelow
+unfolding every? case? cases slips wellFormed? wellFormedPattern? oneNext? allBelow
 computed = tt
 
 pub cases-well-formed : EveryCase CaseWellFormed (cases ++ slips)

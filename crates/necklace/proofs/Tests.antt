@@ -9,7 +9,7 @@ use native.Mathlib.Decide.{ℕ-discrete}
 use native.Mathlib.Omega.{arith}
 use lib.Dec.{T, eqb, ltb, leb, eqb→eq, eqb-refl, ltb→lt, lt→ltb, leb→le, le→leb}
 use lib.ListN.{length, getD, List·getD-eq-default}
-use Rattle.sets.specs.Sets.{_∈_}
+use Rattle.sets.specs.Sets.{_∈_, allBelow}
 use Rattle.sets.proofs.Truth.{or-l, or-r, or-cases, and-i, and-l, and-r}
 use Rattle.necklace.specs.Dag.{Dag, WellFormed, DagPath, here, edge, Route, entered, Reading, done, silent, letter}
 use Rattle.necklace.specs.Automaton.{Automaton, Run, stay, move, Accepts, OneNext}
@@ -17,7 +17,8 @@ use Rattle.necklace.specs.Necklace.{Modality, SOME, ALL, Pattern, WellFo
 use Rattle.necklace.specs.Past.{Past, SameMembers, Alike, OnlyAdds}
 use Rattle.necklace.specs.Compute.{someOf, elem}
 use Rattle.necklace.specs.Listed.{listedDag}
-use Rattle.necklace.specs.Tests.{implies, everyOf, everyBelow, empty, includes, sameMembers?, path?, anyWord, route?, reading?}
+use Rattle.sets.proofs.Below.{allBelow-iff}
+use Rattle.necklace.specs.Tests.{implies, everyOf, empty, includes, sameMembers?, path?, anyWord, route?, reading?}
 use Rattle.necklace.specs.Tests.{wellFormedAt, wellFormed?, acceptsFrom, accepts?, oneBelow, oneNext?, isAll, differ}
 use Rattle.necklace.specs.Tests.{wellFormedBead, wellFormedPattern?, past?, alikeAt, alike?, onlyAddsAt, onlyAdds?}
 use Rattle.necklace.proofs.Lists.{someOf-out, someOf-in, elem-out, elem-in, elem-agrees, no-members}
@@ -69,17 +70,8 @@ everyOf-agrees f (y ∷ ys) {Q} h = go (and-agrees (f y) (everyOf f ys) (h y) (e
         out s x (inl e) = rw e (s .0)
         out s x (inr m) = s .1 x m
 
-everyBelow-agrees : (n : ℕ) (f : ℕ → Bool) {Q : ℕ → Type 0} → ((x : ℕ) → T (f x) ↔ Q x) → T (everyBelow n f) ↔ ((x : ℕ) → x < n → Q x)
-unfolding everyBelow
-everyBelow-agrees zero f h = (λ t x l. absurd (not-suc-le-zero l), λ k. tt)
-everyBelow-agrees (suc n) f {Q} h = go (and-agrees (everyBelow n f) (f n) (everyBelow-agrees n f h) (h n))
-  where
-    go : T (everyBelow n f && f n) ↔ (((x : ℕ) → x < n → Q x) × Q n) → T (everyBelow n f && f n) ↔ ((x : ℕ) → x < suc n → Q x)
-    go k = (λ t x l. out (k .0 t) x (eq-or-lt-of-le l), λ q. k .1 (λ x l. q x (omega arith), q n (omega arith)))
-      where
-        out : ((x : ℕ) → x < n → Q x) × Q n → (x : ℕ) → (suc x ≡ suc n) ⊎ (suc x < suc n) → Q x
-        out s x (inl e) = let z : x ≡ n = omega arith in rw z (s .1)
-        out s x (inr l) = s .0 x (omega arith)
+allBelow-agrees : (n : ℕ) (f : ℕ → Bool) {Q : ℕ → Type 0} → ((x : ℕ) → T (f x) ↔ Q x) → T (allBelow n f) ↔ ((x : ℕ) → x < n → Q x)
+allBelow-agrees n f h = (λ t x l. h x .0 (allBelow-iff n f .0 t x l), λ k. allBelow-iff n f .1 (λ x l. h x .1 (k x l)))
 
 includes-agrees : (xs ys : List ℕ) → T (includes xs ys) ↔ ((x : ℕ) → x ∈ xs → x ∈ ys)
 includes-agrees xs ys = everyOf-agrees (λ x. elem x ys) xs (λ x. elem-agrees x ys)
@@ -204,12 +196,12 @@ wellFormed-agrees c G inner named = (λ t. out (parts .0 t), λ g. parts .1 (int
     Parts : Type 0
     Parts = (((0 < G .size) × (G .labels 0 ≡ [])) × (G .preds 0 ≡ [])) × ((v : ℕ) → v < G .size → At v)
 
-    parts : T (ltb 0 (G .size) && empty (G .labels 0) && empty (G .preds 0) && everyBelow (G .size) (wellFormedAt c G)) ↔ Parts
+    parts : T (ltb 0 (G .size) && empty (G .labels 0) && empty (G .preds 0) && allBelow (G .size) (wellFormedAt c G)) ↔ Parts
     parts =
-        and-agrees (ltb 0 (G .size) && empty (G .labels 0) && empty (G .preds 0)) (everyBelow (G .size) (wellFormedAt c G))
+        and-agrees (ltb 0 (G .size) && empty (G .labels 0) && empty (G .preds 0)) (allBelow (G .size) (wellFormedAt c G))
         (and-agrees (ltb 0 (G .size) && empty (G .labels 0)) (empty (G .preds 0))
         (and-agrees (ltb 0 (G .size)) (empty (G .labels 0)) (lt-agrees 0 (G .size)) (empty-agrees (G .labels 0))) (empty-agrees (G .preds 0)))
-        (everyBelow-agrees (G .size) (wellFormedAt c G) at-agrees)
+        (allBelow-agrees (G .size) (wellFormedAt c G) at-agrees)
 
     out : Parts → WellFormed c G
     out p = record {
@@ -269,12 +261,12 @@ oneNext-agrees c A = (
     One : ℕ → ℕ → Type 0
     One q a = (r : ℕ) × (r < A .states) × (A .next q a ≡ r ∷ [])
 
-    parts : T (ltb 0 (A .states) && everyBelow (A .states) (λ q. everyBelow c (λ a. oneBelow (A .states) (A .next q a))))
+    parts : T (ltb 0 (A .states) && allBelow (A .states) (λ q. allBelow c (λ a. oneBelow (A .states) (A .next q a))))
         ↔ ((0 < A .states) × ((q : ℕ) → q < A .states → (a : ℕ) → a < c → One q a))
     parts =
-        and-agrees (ltb 0 (A .states)) (everyBelow (A .states) (λ q. everyBelow c (λ a. oneBelow (A .states) (A .next q a)))) (lt-agrees 0 (A .states))
-        (everyBelow-agrees (A .states) (λ q. everyBelow c (λ a. oneBelow (A .states) (A .next q a)))
-        (λ q. everyBelow-agrees c (λ a. oneBelow (A .states) (A .next q a)) (λ a. one-agrees (A .states) (A .next q a))))
+        and-agrees (ltb 0 (A .states)) (allBelow (A .states) (λ q. allBelow c (λ a. oneBelow (A .states) (A .next q a)))) (lt-agrees 0 (A .states))
+        (allBelow-agrees (A .states) (λ q. allBelow c (λ a. oneBelow (A .states) (A .next q a)))
+        (λ q. allBelow-agrees c (λ a. oneBelow (A .states) (A .next q a)) (λ a. one-agrees (A .states) (A .next q a))))
 
 isAll-agrees : (m : Modality) → T (isAll m) ↔ (m ≡ ALL)
 isAll-agrees SOME = (λ t. absurd t, λ e. subst (λ (m : Modality). T (isAll m)) (sym e) tt)
@@ -305,11 +297,11 @@ wellFormedPattern-agrees c P = (λ t. out (parts .0 t), λ p. parts .1 (into p))
     Parts : Type 0
     Parts = ((0 < P .count) × (P .count ≤ 8)) × ((j : ℕ) → j < P .count → At j)
 
-    parts : T (ltb 0 (P .count) && leb (P .count) 8 && everyBelow (P .count) (wellFormedBead c P)) ↔ Parts
+    parts : T (ltb 0 (P .count) && leb (P .count) 8 && allBelow (P .count) (wellFormedBead c P)) ↔ Parts
     parts =
-        and-agrees (ltb 0 (P .count) && leb (P .count) 8) (everyBelow (P .count) (wellFormedBead c P))
+        and-agrees (ltb 0 (P .count) && leb (P .count) 8) (allBelow (P .count) (wellFormedBead c P))
         (and-agrees (ltb 0 (P .count)) (leb (P .count) 8) (lt-agrees 0 (P .count)) (leb→le (P .count) 8, le→leb (P .count) 8))
-        (everyBelow-agrees (P .count) (wellFormedBead c P) at-agrees)
+        (allBelow-agrees (P .count) (wellFormedBead c P) at-agrees)
 
     out : Parts → WellFormedPattern c P
     out p = record { some-bead = p .0 .0; at-most = p .0 .1; alternate = λ j l. p .1 j (omega arith) .0 l; one-next = λ j l e. p .1 j l .1 e }
@@ -345,11 +337,11 @@ module _ {c d : ℕ} {G H : Dag} (g : WellFormed c G) (h : WellFormed d H) where
       Parts : Type 0
       Parts = ((v < G .size) × (v < H .size)) × ((x : ℕ) → x < suc v → At x)
 
-      parts : T (ltb v (G .size) && ltb v (H .size) && everyBelow (suc v) (alikeAt G H v)) ↔ Parts
+      parts : T (ltb v (G .size) && ltb v (H .size) && allBelow (suc v) (alikeAt G H v)) ↔ Parts
       parts =
-          and-agrees (ltb v (G .size) && ltb v (H .size)) (everyBelow (suc v) (alikeAt G H v))
+          and-agrees (ltb v (G .size) && ltb v (H .size)) (allBelow (suc v) (alikeAt G H v))
           (and-agrees (ltb v (G .size)) (ltb v (H .size)) (lt-agrees v (G .size)) (lt-agrees v (H .size)))
-          (everyBelow-agrees (suc v) (alikeAt G H v) at-agrees)
+          (allBelow-agrees (suc v) (alikeAt G H v) at-agrees)
 
       out : Parts → Alike G H v
       out p = record {
@@ -380,10 +372,10 @@ module _ {c d : ℕ} {G H : Dag} (g : WellFormed c G) (h : WellFormed d H) where
       Parts : Type 0
       Parts = (H .size ≡ G .size) × ((x : ℕ) → x < G .size → At x)
 
-      parts : T (eqb (H .size) (G .size) && everyBelow (G .size) (onlyAddsAt G H)) ↔ Parts
+      parts : T (eqb (H .size) (G .size) && allBelow (G .size) (onlyAddsAt G H)) ↔ Parts
       parts =
-          and-agrees (eqb (H .size) (G .size)) (everyBelow (G .size) (onlyAddsAt G H)) (eq-agrees (H .size) (G .size))
-          (everyBelow-agrees (G .size) (onlyAddsAt G H) at-agrees)
+          and-agrees (eqb (H .size) (G .size)) (allBelow (G .size) (onlyAddsAt G H)) (eq-agrees (H .size) (G .size))
+          (allBelow-agrees (G .size) (onlyAddsAt G H) at-agrees)
 
       out : Parts → OnlyAdds G H
       out p = record {

@@ -1,8 +1,9 @@
 -- The declarative notions that no contract cites, as tests. Each is proved to say what the definition of its name says.
-use Prim.Native.Nat.{ℕ, zero, suc}
+use Prim.Native.Nat.{ℕ, suc}
 use mathlib.Core.Bool.{Bool, true, false, not, _&&_, _||_}
 use mathlib.Core.List.{List, [], _∷_}
 use lib.Dec.{eqb, ltb, leb}
+use Rattle.sets.specs.Sets.{allBelow}
 use Rattle.necklace.specs.Dag.{Dag}
 use Rattle.necklace.specs.Automaton.{Automaton}
 use Rattle.necklace.specs.Necklace.{Modality, SOME, ALL, Pattern}
@@ -15,11 +16,6 @@ implies a b = not a || b
 abbrev pub everyOf : (ℕ → Bool) → List ℕ → Bool
 everyOf f [] = true
 everyOf f (x ∷ xs) = f x && everyOf f xs
-
--- Every number below n passes.
-unfoldable pub everyBelow : ℕ → (ℕ → Bool) → Bool
-everyBelow zero f = true
-everyBelow (suc n) f = everyBelow n f && f n
 
 abbrev pub empty : List ℕ → Bool
 empty [] = true
@@ -56,7 +52,7 @@ abbrev pub wellFormedAt : ℕ → Dag → ℕ → Bool
 wellFormedAt c G v = (eqb v 0 || not (empty (G .preds v))) && everyOf (λ u. ltb u v) (G .preds v) && everyOf (λ a. ltb a c) (G .labels v)
 
 unfoldable pub wellFormed? : ℕ → Dag → Bool
-wellFormed? c G = ltb 0 (G .size) && empty (G .labels 0) && empty (G .preds 0) && everyBelow (G .size) (wellFormedAt c G)
+wellFormed? c G = ltb 0 (G .size) && empty (G .labels 0) && empty (G .preds 0) && allBelow (G .size) (wellFormedAt c G)
 
 -- `Automaton.Accepts`: some run from q over the word ends in an accepting state; the word of the automaton starts at 0.
 unfoldable pub acceptsFrom : Automaton → ℕ → List ℕ → Bool
@@ -73,7 +69,7 @@ oneBelow n (r ∷ []) = ltb r n
 oneBelow n (r ∷ s ∷ rs) = false
 
 unfoldable pub oneNext? : ℕ → Automaton → Bool
-oneNext? c A = ltb 0 (A .states) && everyBelow (A .states) (λ q. everyBelow c (λ a. oneBelow (A .states) (A .next q a)))
+oneNext? c A = ltb 0 (A .states) && allBelow (A .states) (λ q. allBelow c (λ a. oneBelow (A .states) (A .next q a)))
 
 -- `Necklace.WellFormedPattern`.
 abbrev pub isAll : Modality → Bool
@@ -89,7 +85,7 @@ wellFormedBead c P j = implies (ltb (suc j) (P .count)) (differ (P .bead j .moda
     && implies (isAll (P .bead j .modality)) (oneNext? c (P .bead j .automaton))
 
 unfoldable pub wellFormedPattern? : ℕ → Pattern → Bool
-wellFormedPattern? c P = ltb 0 (P .count) && leb (P .count) 8 && everyBelow (P .count) (wellFormedBead c P)
+wellFormedPattern? c P = ltb 0 (P .count) && leb (P .count) 8 && allBelow (P .count) (wellFormedBead c P)
 
 -- `Past.Past`, `Past.Alike`, `Past.OnlyAdds`, of well formed dags: a past lies below its vertex, and nothing past the vertices.
 unfoldable pub past? : Dag → ℕ → ℕ → Bool
@@ -100,10 +96,10 @@ alikeAt G H v x = implies (past? H v x) (past? G v x)
     && implies (past? G v x) (past? H v x && sameMembers? (G .preds x) (H .preds x) && sameMembers? (G .labels x) (H .labels x))
 
 unfoldable pub alike? : Dag → Dag → ℕ → Bool
-alike? G H v = ltb v (G .size) && ltb v (H .size) && everyBelow (suc v) (alikeAt G H v)
+alike? G H v = ltb v (G .size) && ltb v (H .size) && allBelow (suc v) (alikeAt G H v)
 
 abbrev pub onlyAddsAt : Dag → Dag → ℕ → Bool
 onlyAddsAt G H x = includes (G .preds x) (H .preds x) && includes (G .labels x) (H .labels x) && implies (empty (G .labels x)) (empty (H .labels x))
 
 unfoldable pub onlyAdds? : Dag → Dag → Bool
-onlyAdds? G H = eqb (H .size) (G .size) && everyBelow (G .size) (onlyAddsAt G H)
+onlyAdds? G H = eqb (H .size) (G .size) && allBelow (G .size) (onlyAddsAt G H)
