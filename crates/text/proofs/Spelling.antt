@@ -32,10 +32,10 @@ enough (suc d) (suc e) n h k = go (ltb n 10) refl (λ a b. enough d e (n / 10) a
         let l = ltb-false n 10 q in
         long d n l ∙ ap (λ (front : List ℕ). front ++ ((48 + n % 10) ∷ [])) (rest (omega arith) (omega arith)) ∙ sym (long e n l)
 
-spell-digit : (n : ℕ) → n < 10 → spell n ≡ (48 + n) ∷ []
+pub spell-digit : (n : ℕ) → n < 10 → spell n ≡ (48 + n) ∷ []
 spell-digit n h = short n n h
 
-spell-step : (v d : ℕ) → 0 < v → d < 10 → spell (v * 10 + d) ≡ spell v ++ ((48 + d) ∷ [])
+pub spell-step : (v d : ℕ) → 0 < v → d < 10 → spell (v * 10 + d) ≡ spell v ++ ((48 + d) ∷ [])
 spell-step v d h k =
     let n : ℕ = v * 10 + d in
     let q : n / 10 ≡ v = omega arith in

@@ -1,0 +1,17 @@
+// Buffers of numbers, written in stretches.
+ghost use mathlib.Core.Path.{_≡_};
+ghost use mathlib.Core.List.{_++_};
+ghost use Prim.Native.Nat.{_-_, _≤_};
+ghost use lib.ListN.{length, take, drop, replicate};
+
+// Zeros from one place up to another, and the rest as it was.
+pub fn clear(buffer: &mut [u16], from: usize, to: usize)
+    requires { ⌜ (from ≤ to) × (to ≤ length (now buffer)) ⌝ }
+    ensures { λ _. ⌜ now (buffer .exit) ≡ take from (now (buffer .entry)) ++ (replicate (to - from) 0 ++ drop to (now (buffer .entry))) ⌝ }
+{
+    let mut i = from;
+    while i < to {
+        buffer[i] = 0;
+        i += 1;
+    }
+}
