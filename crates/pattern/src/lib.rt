@@ -1,0 +1,30 @@
+// The pattern reader: from a text to the numbers of a pattern buffer, or the refusal of document 01 that applies.
+ghost use mathlib.Core.Path.{_≡_};
+ghost use Rattle.pattern.specs.Buffer.{patternAnswer, patternAfter};
+use crate::reading::TextAnswer;
+use crate::reading::read_text;
+use crate::store::copy;
+use answer::Answer;
+use pattern_line::refusals::number_of;
+
+pub mod late;
+pub mod reading;
+pub mod store;
+
+// Reads the text into a buffer of its own and copies that into the lent one where the text is accepted, so a refusal changes nothing.
+pub fn read_pattern(text: &[u8], pattern: &mut [u16]) -> Answer
+    ensures { λ r. ⌜ r ≡ patternAnswer (now (text .entry)) (now (pattern .entry)) ⌝ }
+    ensures { λ _. ⌜ now (pattern .exit) ≡ patternAfter (now (text .entry)) (now (pattern .entry)) ⌝ }
+{
+    if pattern.len() < 2074 {
+        return answer::refused(2, 0);
+    }
+    let mut buffer = [0u16; 2074];
+    match read_text(text, &mut buffer) {
+        TextAnswer::Refused(f, line) => answer::refused(number_of(f), line),
+        TextAnswer::Beads(count) => {
+            copy(&buffer, pattern);
+            answer::accepted(count)
+        }
+    }
+}

@@ -1,0 +1,16 @@
+-- A buffer is what some accepted text gives (document 01: the denial of refusal 6).
+use mathlib.Core.Path.{_≡_}
+use mathlib.Core.List.{List}
+use Prim.Native.Nat.{ℕ, _≤_}
+use lib.ListN.{length, take}
+use Rattle.text.specs.Walk.{accepted}
+use Rattle.pattern_line.specs.Limits.{bufferLength}
+use Rattle.pattern.specs.Format.{Known, patternText}
+use Rattle.pattern.specs.Buffer.{bufferOf}
+
+pub record GivenPattern (buffer : List ℕ) : Type 0 where
+  pub long : bufferLength ≤ length buffer
+  pub text : List ℕ
+  pub known : Known
+  pub reads : patternText text ≡ accepted known
+  pub gives : take bufferLength buffer ≡ bufferOf known

@@ -1,0 +1,4 @@
+pub mod Lists
+pub mod WordLaws
+pub mod HeaderLaws
+pub mod RowLaws

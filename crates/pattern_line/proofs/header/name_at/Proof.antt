@@ -1,0 +1,47 @@
+-- The field found is tested; no bytes are no name.
+use borrow.Author.Needs.{needs}
+use Rattle.pattern_line.proofs.WordLaws.{kit}
+use borrow.Author.Needs.{needs}
+use Rattle.pattern_line.proofs.header.name_at.Statement.{statement}
+use Rattle.pattern_line.proofs.header.name_at.Tie as tie
+
+find-field-requires : tie.Need-find-field-requires
+find-field-requires c κs = search (needs, kit)
+
+enum-told : tie.Need-enum-told
+enum-told c = search (needs, kit)
+
+enum-known-from : tie.Need-enum-known-from
+enum-known-from c = search (needs, kit)
+
+sub-is-name : tie.Need-sub-is-name
+sub-is-name c = search (needs, kit)
+
+part-is-name-start : tie.Need-part-is-name-start
+part-is-name-start c = search (needs, kit)
+
+part-is-name-end : tie.Need-part-is-name-end
+part-is-name-end c = search (needs, kit)
+
+is-name-requires : tie.Need-is-name-requires
+is-name-requires c κs = search (needs, kit)
+
+returns : tie.Need-returns
+returns c = search (needs, kit)
+
+returns-2 : tie.Need-returns-2
+returns-2 c = search (needs, kit)
+
+pub name-at-spec : {M : Type 1} → statement M
+name-at-spec =
+    tie.close
+    (tie.spec
+    find-field-requires
+    enum-told
+    enum-known-from
+    sub-is-name
+    part-is-name-start
+    part-is-name-end
+    is-name-requires
+    returns
+    returns-2)

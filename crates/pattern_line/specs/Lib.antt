@@ -1,0 +1,5 @@
+pub mod Limits
+pub mod Line
+pub mod Header
+pub mod Row
+pub mod Answers
