@@ -1,0 +1,9 @@
+pub mod TestLaws
+pub mod Sound
+pub mod Meaning
+pub mod StepLaws
+pub mod StepPlaces
+pub mod SpelledLaws
+pub mod LogText
+pub mod LogBuffers
+pub mod OnlyFirst

@@ -1,0 +1,55 @@
+-- The loop keeps: all steps before v pass.
+use borrow.Author.Needs.{needs}
+use Rattle.log_buffer.proofs.TestLaws.{steps-kit}
+use Prim.Native.Nat.{_≤_, _-_}
+use mathlib.Core.Path.{_≡_}
+use mathlib.Core.Bool.{true}
+use lib.ListN.{length}
+use Rattle.sets.specs.Sets.{allBelow}
+use Rattle.log_line.specs.Limits.{bufferLength, mostSteps, mostLinks, beginAt}
+use Rattle.log_buffer.specs.Meaning.{at, stepsIn}
+use Rattle.log_buffer.specs.Valid.{beginOk, linksOk}
+use Rattle.log_buffer.proofs.all_links.Statement.{statement}
+use Rattle.log_buffer.proofs.all_links.Tie as tie
+
+abbrev Inv-loop : tie.InvT-loop
+Inv-loop buffer v₀ v = (v ≤ 1024) × (bufferLength ≤ length buffer) × (stepsIn buffer ≤ mostSteps) × (allBelow 1024 (beginOk buffer) ≡ true)
+    × (at buffer (beginAt (stepsIn buffer)) ≤ mostLinks) × (allBelow v (linksOk buffer) ≡ true)
+
+abbrev μ-loop : tie.MeasureT-loop
+μ-loop buffer v₀ v = 1024 - v
+
+loop-holds : tie.Need-loop-holds Inv-loop μ-loop
+loop-holds c = search (needs, steps-kit)
+
+links-ok-requires : tie.Need-links-ok-requires Inv-loop μ-loop
+links-ok-requires c κs = search (needs, steps-kit)
+
+returns : tie.Need-returns Inv-loop μ-loop
+returns c = search (needs, steps-kit)
+
+add-v : tie.Need-add-v Inv-loop μ-loop
+add-v c = search (needs, steps-kit)
+
+loop-less : tie.Need-loop-less Inv-loop μ-loop
+loop-less c = search (needs, steps-kit)
+
+loop-again : tie.Need-loop-again Inv-loop μ-loop
+loop-again c = search (needs, steps-kit)
+
+returns-2 : tie.Need-returns-2 Inv-loop μ-loop
+returns-2 c = search (needs, steps-kit)
+
+pub all-links-spec : {M : Type 1} → statement M
+all-links-spec =
+    tie.close
+    (tie.spec
+    Inv-loop
+    μ-loop
+    loop-holds
+    links-ok-requires
+    returns
+    add-v
+    loop-less
+    loop-again
+    returns-2)

@@ -1,0 +1,16 @@
+-- A buffer is what some accepted text gives under a label count (document 01: the denial of refusal 7).
+use mathlib.Core.Path.{_≡_}
+use mathlib.Core.List.{List}
+use Prim.Native.Nat.{ℕ, _≤_}
+use lib.ListN.{length, take}
+use Rattle.text.specs.Walk.{accepted}
+use Rattle.log_line.specs.Limits.{bufferLength}
+use Rattle.log_line.specs.Format.{Known, logText}
+use Rattle.log.specs.Buffer.{bufferOf}
+
+pub record GivenLog (count : ℕ) (buffer : List ℕ) : Type 0 where
+  pub long : bufferLength ≤ length buffer
+  pub text : List ℕ
+  pub known : Known
+  pub reads : logText count text ≡ accepted known
+  pub gives : take bufferLength buffer ≡ bufferOf (known .steps)

@@ -1,0 +1,39 @@
+-- A text that gives a log buffer: the header in the order vertex, board, labels, preds, then a line for each step.
+use Prim.Native.Nat.{ℕ, zero, suc}
+use mathlib.Core.List.{List, [], _∷_, _++_, map}
+use Rattle.text.specs.Split.{joined, lineFrom}
+use Rattle.text.specs.Numbers.{spell}
+use Rattle.log_line.specs.Limits.{labelsAt, boardAt}
+use Rattle.log_line.specs.Header.{vertexName, boardName, labelsName, predsName}
+use Rattle.log_line.specs.Step.{Step}
+use Rattle.log_buffer.specs.Meaning.{at, stepsIn, linksInto}
+
+abbrev pub stepIn : List ℕ → ℕ → Step
+stepIn b v = record { board = at b (boardAt v); labels = at b (labelsAt v); preds = linksInto b v }
+
+unfoldable pub stepsUpTo : List ℕ → ℕ → List Step
+stepsUpTo b zero = []
+stepsUpTo b (suc v) = stepsUpTo b v ++ (stepIn b v ∷ [])
+
+-- The steps of a buffer, in order.
+abbrev pub stepsOf : List ℕ → List Step
+stepsOf b = stepsUpTo b (stepsIn b)
+
+-- `-`, or the numbers joined by commas.
+abbrev pub predsWord : List ℕ → List ℕ
+predsWord [] = 45 ∷ []
+predsWord (u ∷ us) = joined 44 (map spell (u ∷ us))
+
+abbrev pub fieldsOf : ℕ → Step → List (List ℕ)
+fieldsOf v x = spell v ∷ (spell (x .board) ∷ (spell (x .labels) ∷ (predsWord (x .preds) ∷ [])))
+
+-- The lines of the steps from number v on.
+unfoldable pub stepLines : ℕ → List Step → List ℕ
+stepLines v [] = []
+stepLines v (x ∷ xs) = lineFrom (fieldsOf v x) ++ stepLines (suc v) xs
+
+abbrev pub headerLine : List ℕ
+headerLine = lineFrom (vertexName ∷ (boardName ∷ (labelsName ∷ (predsName ∷ []))))
+
+abbrev pub textOf : List ℕ → List ℕ
+textOf b = headerLine ++ stepLines 0 (stepsOf b)

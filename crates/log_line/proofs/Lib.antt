@@ -1,0 +1,6 @@
+pub mod PartLaws
+pub mod NumberLaws
+pub mod PredLaws
+pub mod ColumnLaws
+pub mod HeaderLaws
+pub mod StepLaws

@@ -1,0 +1,20 @@
+-- `-`, or the parts.
+use Rattle.log_line.proofs.PredLaws.{pred-kit}
+use borrow.Author.Needs.{needs}
+use Rattle.log_line.proofs.preds.store_preds.Statement.{statement}
+use Rattle.log_line.proofs.preds.store_preds.Tie as tie
+
+is-none-requires : tie.Need-is-none-requires
+is-none-requires c κs = search (needs, pred-kit)
+
+returns : tie.Need-returns
+returns c = search (needs, pred-kit)
+
+store-numbers-requires : tie.Need-store-numbers-requires
+store-numbers-requires c κs = search (needs, pred-kit)
+
+returns-2 : tie.Need-returns-2
+returns-2 c = search (needs, pred-kit)
+
+pub store-preds-spec : {M : Type 1} → statement M
+store-preds-spec = tie.close (tie.spec is-none-requires returns store-numbers-requires returns-2)

@@ -1,0 +1,5 @@
+pub mod Limits
+pub mod Header
+pub mod Step
+pub mod Format
+pub mod Answers

@@ -1,0 +1,39 @@
+// One field of a line as a number.
+ghost use mathlib.Core.Path.{_≡_};
+ghost use mathlib.Core.List.{[]};
+ghost use lib.ListN.{getD};
+ghost use Rattle.text.specs.Split.{split};
+ghost use Rattle.text.specs.Numbers.{numberOf, isNumber, valueOf};
+use text::fields::Field;
+use text::fields::find_field;
+use text::numbers::Number;
+use text::numbers::read_number;
+
+// The number in the field with this index; a field that is not there is none.
+pub fn number_at(line: &[u8], index: usize) -> Number
+    ensures { λ r. ⌜ r ≡ numberOf (getD (split 32 (now (line .entry))) index []) ⌝ }
+{
+    match find_field(line, 32, index) {
+        Field::Missing => Number::Malformed,
+        Field::At(x, y) => read_number(&line[x..y]),
+    }
+}
+
+pub fn is_number_at(line: &[u8], index: usize) -> bool
+    ensures { λ r. ⌜ r ≡ isNumber (getD (split 32 (now (line .entry))) index []) ⌝ }
+{
+    match number_at(line, index) {
+        Number::Malformed => false,
+        Number::Value(_) => true,
+    }
+}
+
+// Its value, 0 where it is no number.
+pub fn value_at(line: &[u8], index: usize) -> u16
+    ensures { λ r. ⌜ r ≡ valueOf (getD (split 32 (now (line .entry))) index []) ⌝ }
+{
+    match number_at(line, index) {
+        Number::Malformed => 0,
+        Number::Value(n) => n,
+    }
+}
