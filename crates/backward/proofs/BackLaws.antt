@@ -1,0 +1,111 @@
+-- The backward pass over sets as numbers: what is left of it gives the whole answer.
+use Prim.Native.Nat.{ℕ, zero, suc, _-_, _≤_, _<_}
+use mathlib.Core.Path.{_≡_, refl, sym, ap, ap₂, _∙_}
+use mathlib.Core.Bool.{Bool, true, false, _&&_, _||_}
+use mathlib.Core.List.{List, [], _∷_}
+use native.Mathlib.Decide.{ℕ-discrete}
+use native.Mathlib.Omega.{arith}
+use borrow.Author.Tests.{eq-eqb, ne-eqb}
+use lib.Dec.{eqb}
+use lib.ListN.{length, getD, set, replicate, length-replicate}
+use lib.Seq.{getD-set-same, getD-set-other}
+use Rattle.sets.specs.Sets.{member, setOf}
+use Rattle.sets.proofs.Truth.{no-false, false-no}
+use Rattle.sets.proofs.Bits.{member-empty}
+use Rattle.sets.proofs.Laws.{member-setOf}
+use Rattle.necklace.specs.Automaton.{Automaton}
+use Rattle.necklace.specs.Compute.{someOf, elem, enters, addBack, pass, backward}
+use Rattle.necklace.proofs.Lists.{someOf-out}
+use Rattle.necklace.proofs.Backward.{pass-down, pass-end, pass-ext, pass-ext-on, backward-pass}
+use Rattle.pattern_buffer.specs.Meaning.{automatonOf}
+use Rattle.log_buffer.specs.Meaning.{stepsIn, linksInto, logOf}
+use Rattle.log_buffer.proofs.Meaning.{preds-are}
+use Rattle.step_table.specs.Table.{Tabled, Laid, pulled}
+use Rattle.backward.specs.Backward.{PassedBy, Pushed}
+use Rattle.step_table.proofs.TableLaws.{pulled-enters, next-within}
+
+-- A list of sets as the pass has it: the state q is in the set of the vertex w.
+abbrev pub family : List ℕ → ℕ → ℕ → Bool
+family l w q = member q (getD l w 0)
+
+-- The vertices x, .., 1 are left: the pass over them gives the answer.
+pub record Left (log work : List ℕ) (F v x : ℕ) (l : List ℕ) : Type 0 where
+  pub left : (b : List ℕ) (j : ℕ) → Tabled (logOf log) (automatonOf b j) (stepsIn log) work → (w q : ℕ) → q < 16
+      → pass (logOf log) (automatonOf b j) x (family l) w q ≡ backward (logOf log) (automatonOf b j) (λ r. member r F) v w q
+
+-- no state leads into the empty set
+enters-empty : (A : Automaton) (ls : List ℕ) (S : ℕ → Bool) (q : ℕ) → ((r : ℕ) → S r ≡ false) → enters A ls S q ≡ false
+enters-empty A [] S q h = h q
+enters-empty A (a ∷ ls) S q h =
+    no-false (someOf (λ b. someOf S (A .next q b)) (a ∷ ls))
+    (λ t. let l = someOf-out (λ b. someOf S (A .next q b)) (a ∷ ls) t in let r = someOf-out S (A .next q (l .0)) (l .2) in false-no (S (r .0)) (h (r .0)) (r .2))
+
+module _ (log work : List ℕ) (F v : ℕ) where
+  -- sets that say what the turn of x says take the pass down
+  turn : (x : ℕ) (l m : List ℕ) → 0 < x → Left log work F v x l
+      → ((b : List ℕ) (j : ℕ) → Tabled (logOf log) (automatonOf b j) (stepsIn log) work → (w q : ℕ) → q < 16
+      → family m w q ≡ addBack (logOf log) (automatonOf b j) x (family l) w q)
+      → Left log work F v (x - 1) m
+  turn x l m h d e = record {
+    left = λ b j t w q k.
+        pass-ext-on (logOf log) (automatonOf b j) (λ q. q < 16) (λ y a q r i k n. next-within b j q a r n) (x - 1) (family m)
+        (addBack (logOf log) (automatonOf b j) x (family l)) (e b j t) w q k
+        ∙ sym (ap (λ (s : ℕ → ℕ → Bool). s w q) (pass-down (logOf log) (automatonOf b j) x (family l) h))
+        ∙ d .left b j t w q k;
+  }
+
+  module _ (x : ℕ) (l : List ℕ) (some : 0 < x) (low : x ≤ v) (high : v < stepsIn log) (inv : Left log work F v x l) where
+    pub back-turn : (t : ℕ) (m : List ℕ) → t ≡ setOf 16 (pulled work x (getD l x 0)) → Pushed (linksInto log x) t l m → Left log work F v (x - 1) m
+    back-turn t m e p = turn x l m some inv (λ b j d w q k.
+        p .sets w q k
+        ∙ ap₂ (λ (ls : List ℕ) (c : Bool). member q (getD l w 0) || (elem w ls && c)) (sym (preds-are log x (omega arith)))
+        (ap (member q) e ∙ member-setOf 16 (pulled work x (getD l x 0)) q k
+        ∙ pulled-enters (logOf log) (automatonOf b j) (stepsIn log) work d x (getD l x 0) q (omega arith) k (λ a r n. next-within b j q a r n)))
+
+    pub back-skip : getD l x 0 ≡ 0 → Left log work F v (x - 1) l
+    back-skip e = turn x l l some inv (λ b j d w q k.
+        sym (ap (λ (c : Bool). member q (getD l w 0) || (elem w (logOf log .preds x) && c))
+        (enters-empty (automatonOf b j) (logOf log .labels x) (family l x) q (λ r. ap (member r) e ∙ member-empty r))
+        ∙ nothing (member q (getD l w 0)) (elem w (logOf log .preds x))))
+      where
+        nothing : (a b : Bool) → (a || (b && false)) ≡ a
+        nothing true b = refl
+        nothing false true = refl
+        nothing false false = refl
+
+  pub back-start : (old l : List ℕ) → v < stepsIn log → Laid log → 1024 ≤ length old → l ≡ set (replicate (length old) 0) v F → Left log work F v v l
+  back-start old l h laid long e = record {
+    left = λ b j t w q k.
+        pass-ext (logOf log) (automatonOf b j) v (family l) (λ x r. eqb x v && member r F) first w q
+        ∙ sym (ap (λ (s : ℕ → ℕ → Bool). s w q) (backward-pass (logOf log) (automatonOf b j) (λ r. member r F) v));
+  }
+    where
+      none : List ℕ
+      none = replicate (length old) 0
+
+      zeros : (n i : ℕ) → _≡_ {A = ℕ} (getD (replicate n 0) i 0) 0
+      zeros zero i = refl
+      zeros (suc n) zero = refl
+      zeros (suc n) (suc i) = zeros n i
+
+      inside : v < length none
+      inside = let f = laid .few in rw (length-replicate {A = ℕ} (length old) 0) (omega arith)
+
+      first : (w q : ℕ) → family l w q ≡ (eqb w v && member q F)
+      first w q = ap (λ (m : List ℕ). family m w q) e ∙ go (ℕ-discrete w v)
+        where
+          go : Dec (w ≡ v) → family (set none v F) w q ≡ (eqb w v && member q F)
+          go (yes z) = rw (eq-eqb w v z) (ap (member q) (ap (λ (i : ℕ). getD (set none v F) i 0) z ∙ getD-set-same none v F 0 inside))
+          go (no n) = rw (ne-eqb w v n) (ap (member q) (getD-set-other none v w F 0 n ∙ zeros (length old) w) ∙ member-empty q)
+
+  pub back-end : (x : ℕ) (l : List ℕ) → x ≤ 0 → Left log work F v x l → PassedBy log work F v l
+  back-end x l h d = record {
+    passed = λ b j t. record {
+      from = λ w q m k.
+          let z : x ≡ 0 = omega arith in
+          sym (ap (λ (s : ℕ → ℕ → Bool). s w q) (ap (λ (i : ℕ). pass (logOf log) (automatonOf b j) i (family l)) z ∙ pass-end (logOf log) (automatonOf b j) (family l)))
+          ∙ d .left b j t w q k;
+    };
+  }
+
+pub ruleset kit = (back-start, back-turn, back-skip, back-end)

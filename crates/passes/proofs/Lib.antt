@@ -1,0 +1,3 @@
+pub mod FlagLaws
+pub mod Facts
+pub mod ServingLaws
