@@ -1,0 +1,136 @@
+-- What it says of a call that it is accepted: the tests that it passed, and the rows that it leaves.
+-- Assumes nothing.
+use Prim.Native.Nat.{ℕ, zero, suc, _+_, _-_, _*_, _≤_, _<_}
+use mathlib.Core.Path.{_≡_, refl, sym, ap, ap₂, _∙_, subst}
+use mathlib.Core.Bool.{Bool, true, false, not, cond}
+use mathlib.Core.List.{List, [], _∷_, _++_, append-assoc}
+use mathlib.Core.Logic.{_⊎_, inl, inr}
+use native.Mathlib.Nat.{eq-or-lt-of-le}
+use native.Mathlib.Omega.{arith}
+use borrow.Author.Tests.{ltb-false, lt-ltb, le-ltb}
+use lib.Dec.{T, eqb, ltb}
+use lib.ListN.{length, getD, take, drop, replicate, length-append}
+use lib.Seq.{take-append-le, drop-append-le, drop-at, take-at}
+use Rattle.answer.specs.declared.Answer.{Answer}
+use Rattle.answer.specs.Answers.{acceptedWith, refusedAt}
+use Rattle.necklace.specs.Dag.{Dag}
+use Rattle.necklace.specs.Necklace.{Pattern}
+use Rattle.necklace.specs.Compute.{holds?, row}
+use Rattle.necklace.proofs.RowMeaning.{row-length}
+use Rattle.pattern_line.specs.Limits.{bufferLength as patternLength}
+use Rattle.log_line.specs.Limits.{bufferLength as logLength}
+use Rattle.pattern_buffer.specs.Meaning.{patternOf, labelsIn}
+use Rattle.pattern_buffer.specs.Valid.{isPattern}
+use Rattle.log_buffer.specs.Meaning.{logOf}
+use Rattle.log_buffer.specs.Valid.{isLog}
+use Rattle.judging.specs.Limits.{resultLength, workLength, rowLength}
+use Rattle.judging.specs.Judge.{patternIn, logIn, rowsUpTo, wholeUpTo, judgeAnswer, accepts, rowsOf, resultAfter, workAfter}
+use Rattle.judging.specs.Demands.{rowIn}
+
+-- The tests that an accepted call passed.
+pub record Accepted (pattern log result work : List ℕ) : Type 0 where
+  pub log-long : logLength ≤ length log
+  pub pattern-long : patternLength ≤ length pattern
+  pub result-long : resultLength ≤ length result
+  pub work-long : workLength ≤ length work
+  pub is-pattern : T (isPattern (take patternLength pattern))
+  pub is-log : T (isLog (labelsIn (take patternLength pattern)) (take logLength log))
+
+module _ (pattern log result work : List ℕ) where
+  answer-by : Bool → Bool → Bool → Bool → Bool → Bool → Answer
+  answer-by a b c d e f =
+      cond a (refusedAt 1 0)
+      (cond b (refusedAt 2 0)
+      (cond c (refusedAt 3 0)
+      (cond d (refusedAt 4 0)
+      (cond (not e) (refusedAt 6 0)
+      (cond (not f) (refusedAt 7 0) (acceptedWith (wholeUpTo (logIn log) (patternIn pattern) (logIn log .size))))))))
+
+  -- Which of the tests stopped a call, if one did.
+  pub passed-all : T (accepts pattern log result work) → Accepted pattern log result work
+  unfolding answer-by
+  passed-all t =
+      go (ltb (length log) logLength) refl (ltb (length pattern) patternLength) refl (ltb (length result) resultLength) refl (ltb (length work) workLength) refl
+      (isPattern (take patternLength pattern)) refl (isLog (labelsIn (take patternLength pattern)) (take logLength log)) refl t
+    where
+      go : (a : Bool) → ltb (length log) logLength ≡ a → (b : Bool) → ltb (length pattern) patternLength ≡ b → (c : Bool) → ltb (length result) resultLength ≡ c
+          → (d : Bool) → ltb (length work) workLength ≡ d → (e : Bool) → isPattern (take patternLength pattern) ≡ e
+          → (f : Bool) → isLog (labelsIn (take patternLength pattern)) (take logLength log) ≡ f
+          → T (eqb (answer-by a b c d e f .number) 0) → Accepted pattern log result work
+      go true ea b eb c ec d ed e ee f ef u = absurd u
+      go false ea true eb c ec d ed e ee f ef u = absurd u
+      go false ea false eb true ec d ed e ee f ef u = absurd u
+      go false ea false eb false ec true ed e ee f ef u = absurd u
+      go false ea false eb false ec false ed false ee f ef u = absurd u
+      go false ea false eb false ec false ed true ee false ef u = absurd u
+      go false ea false eb false ec false ed true ee true ef u = record {
+        log-long = ltb-false (length log) logLength ea;
+        pattern-long = ltb-false (length pattern) patternLength eb;
+        result-long = ltb-false (length result) resultLength ec;
+        work-long = ltb-false (length work) workLength ed;
+        is-pattern = subst T (sym ee) tt;
+        is-log = subst T (sym ef) tt;
+      }
+
+  yes : (b : Bool) → T b → b ≡ true
+  yes true t = refl
+  yes false t = absurd t
+
+  -- And conversely: who passes the tests is accepted, with the count.
+  pub answer-accepted : Accepted pattern log result work → judgeAnswer pattern log result work ≡ acceptedWith (wholeUpTo (logIn log) (patternIn pattern) (logIn log .size))
+  answer-accepted a =
+      rw (
+        le-ltb (length log) logLength (a .log-long),
+        le-ltb (length pattern) patternLength (a .pattern-long),
+        le-ltb (length result) resultLength (a .result-long),
+        le-ltb (length work) workLength (a .work-long),
+        yes (isPattern (take patternLength pattern)) (a .is-pattern),
+        yes (isLog (labelsIn (take patternLength pattern)) (take logLength log)) (a .is-log),
+      )
+
+  pub accepted-call : Accepted pattern log result work → T (accepts pattern log result work)
+  accepted-call a = subst (λ (x : Answer). T (eqb (x .number) 0)) (sym (answer-accepted a)) tt
+
+  pub result-accepted : T (accepts pattern log result work) → resultAfter pattern log result work ≡ rowsOf (logIn log) (patternIn pattern) ++ drop resultLength result
+  result-accepted t = rw (yes (accepts pattern log result work) t)
+
+-- ---- the rows, one after the other
+
+rows-next : (G : Dag) (P : Pattern) (v : ℕ) → rowsUpTo G P (suc v) ≡ rowsUpTo G P v ++ row G P v
+unfolding rowsUpTo
+rows-next G P v = refl
+
+rows-none : (G : Dag) (P : Pattern) → rowsUpTo G P zero ≡ []
+unfolding rowsUpTo
+rows-none G P = refl
+
+pub rows-length : (G : Dag) (P : Pattern) (n : ℕ) → length (rowsUpTo G P n) ≡ rowLength * n
+rows-length G P zero = ap length (rows-none G P)
+rows-length G P (suc n) =
+    ap length (rows-next G P n) ∙ length-append (rowsUpTo G P n) (row G P n) ∙ ap₂ (λ (a b : ℕ). a + b) (rows-length G P n) (row-length G P n) ∙ omega arith
+
+-- The row of a vertex below n stands at ten times its number, whatever follows.
+pub row-there : (G : Dag) (P : Pattern) (n v : ℕ) (rest : List ℕ) → v < n → rowIn (rowsUpTo G P n ++ rest) v ≡ row G P v
+row-there G P zero v rest h = absurd (omega arith)
+row-there G P (suc n) v rest h = go (eq-or-lt-of-le h) (λ l. row-there G P n v (row G P n ++ rest) l)
+  where
+    shape : rowsUpTo G P (suc n) ++ rest ≡ rowsUpTo G P n ++ (row G P n ++ rest)
+    shape = ap (λ (l : List ℕ). l ++ rest) (rows-next G P n) ∙ append-assoc (rowsUpTo G P n) (row G P n) rest
+
+    go : (suc v ≡ suc n) ⊎ (suc v < suc n) → (v < n → rowIn (rowsUpTo G P n ++ (row G P n ++ rest)) v ≡ row G P v)
+        → rowIn (rowsUpTo G P (suc n) ++ rest) v ≡ row G P v
+    go (inl e) before =
+        let z : v ≡ n = omega arith in
+        ap (λ (l : List ℕ). rowIn l v) shape ∙ ap (λ (k : ℕ). rowIn (rowsUpTo G P n ++ (row G P n ++ rest)) k) z
+        ∙ ap (take rowLength) (drop-at (rowsUpTo G P n) (row G P n ++ rest) (rowLength * n) (rows-length G P n))
+        ∙ take-at (row G P n) rest rowLength (row-length G P n) ∙ ap (row G P) (sym z)
+    go (inr l) before = ap (λ (k : List ℕ). rowIn k v) shape ∙ before (omega arith)
+
+-- The row of a step in the result of an accepted call.
+pub row-in-result : (pattern log result work : List ℕ) → T (accepts pattern log result work) → (v : ℕ) → v < logIn log .size
+    → rowIn (resultAfter pattern log result work) v ≡ row (logIn log) (patternIn pattern) v
+row-in-result pattern log result work t v h =
+    ap (λ (l : List ℕ). rowIn l v)
+    (result-accepted pattern log result work t
+    ∙ append-assoc (rowsUpTo (logIn log) (patternIn pattern) (logIn log .size)) (replicate (resultLength - rowLength * logIn log .size) 0) (drop resultLength result))
+    ∙ row-there (logIn log) (patternIn pattern) (logIn log .size) v (replicate (resultLength - rowLength * logIn log .size) 0 ++ drop resultLength result) h
