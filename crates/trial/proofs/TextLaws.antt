@@ -104,10 +104,13 @@ pub number-put : (n k at r : ℕ) (out l new : List ℕ) → Fewest 10 1 n k →
     → AppendedNumber n l at r new
 number-put n k at r out l new f e a = record { places = k; fewest = f; appended = rw e at a }
 
+pub count-front : (n : ℕ) (l : List ℕ) → n ≤ length l → n ≡ length (take n l)
+count-front n l h = sym (length-take-le n l h)
+
 pub front-count : (n : ℕ) (l : List ℕ) → n < length l → n ≡ length (take n l)
-front-count n l h = sym (length-take-le n l (le-of-lt h))
+front-count n l h = count-front n l (le-of-lt h)
 
 pub front-all : (n : ℕ) (l : List ℕ) → length l ≤ n → l ≡ take n l
 front-all n l h = sym (take-all n l h)
 
-pub ruleset kit = (byte-put, byte-full, append-none, bytes-again, bytes-end, repeated-again, repeated-end, number-put, front-count, front-all)
+pub ruleset kit = (byte-put, byte-full, append-none, bytes-again, bytes-end, repeated-again, repeated-end, number-put, count-front, front-count, front-all)

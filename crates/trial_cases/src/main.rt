@@ -13,6 +13,12 @@ fn main() {
     first_numbers(1, 10);
     trial::print_count(b"number 10000 from seed 1", number_after(1, 10000));
     reductions();
+    numbers_read();
+    loads();
+    buffers();
+    let mut file = [0u8; 4096];
+    let n = trial::load(b"scripts.txt", &mut file);
+    expand_lines(&file[..n]);
 }
 
 fn reads() {
@@ -176,4 +182,63 @@ fn reductions() {
     trial::print_count(b"48271 below 10", r.below(10));
     trial::print_count(b"48271 below 48271", r.below(48271));
     trial::print_count(b"48271 below the largest", r.below(18446744073709551615));
+}
+
+fn numbers_read() {
+    trial::print_count(b"number of nothing", trial::number(b""));
+    trial::print_count(b"number 0", trial::number(b"0"));
+    trial::print_count(b"number 007", trial::number(b"007"));
+    trial::print_count(b"number 65535", trial::number(b"65535"));
+    trial::print_count(b"number 999999999", trial::number(b"999999999"));
+}
+
+fn loads() {
+    let mut buf = *b"........";
+    let n = trial::load(b"missing.txt", &mut buf);
+    show(b"load of a missing file", &buf, n);
+    let n = trial::load(b"short.txt", &mut buf);
+    show(b"load of 5 bytes", &buf, n);
+    let n = trial::load(b"scripts.txt", &mut buf);
+    show(b"load of more bytes than fit", &buf, n);
+}
+
+fn buffers() {
+    let mut s = [0u16; 3];
+    trial::mark(&mut s);
+    show_buffer(b"marked buffer", &s);
+    s[2] = 1;
+    show_buffer(b"marked buffer with its last number changed", &s);
+    show_buffer(b"empty buffer", &s[..0]);
+}
+
+fn show_buffer(what: &[u8], s: &[u16]) {
+    trial::print_answer(what, 0, 1, 65535);
+    trial::print_buffer(0, s);
+    trial::print_buffer(10, s);
+    trial::print_line(b"");
+}
+
+// A line of the file: what is tried, a script, and how many bytes there is room for.
+fn expand_lines(file: &[u8]) {
+    let mut at = 0;
+    while at < file.len() {
+        let end = trial::find_byte(file, at, b'\n');
+        expand_line(trial::part(file, at, end));
+        at = end + 1;
+    }
+}
+
+fn expand_line(line: &[u8]) {
+    let mut out = *b"................................";
+    let room = trial::number(trial::column(line, 2)) as usize;
+    let n = expand_front(trial::column(line, 1), &mut out, room);
+    show(trial::column(line, 0), &out, n);
+}
+
+// Expands into the first bytes of a buffer.
+fn expand_front(script: &[u8], out: &mut [u8], room: usize) -> usize {
+    if room > out.len() {
+        return 0;
+    }
+    trial::expand(script, &mut out[..room])
 }
