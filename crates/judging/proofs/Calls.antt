@@ -88,6 +88,12 @@ module _ (pattern log result work : List ℕ) where
         yes (isLog (labelsIn (take patternLength pattern)) (take logLength log)) (a .is-log),
       )
 
+  -- 6 comes before 7: a pattern buffer that no text gives is refused with 6, whatever the log is.
+  pub six-first : logLength ≤ length log → patternLength ≤ length pattern → resultLength ≤ length result → workLength ≤ length work
+      → isPattern (take patternLength pattern) ≡ false → judgeAnswer pattern log result work ≡ refusedAt 6 0
+  six-first a b c d e =
+      rw (le-ltb (length log) logLength a, le-ltb (length pattern) patternLength b, le-ltb (length result) resultLength c, le-ltb (length work) workLength d, e)
+
   pub accepted-call : Accepted pattern log result work → T (accepts pattern log result work)
   accepted-call a = subst (λ (x : Answer). T (eqb (x .number) 0)) (sym (answer-accepted a)) tt
 

@@ -2,3 +2,4 @@ pub mod Calls
 pub mod Demands
 pub mod Whole
 pub mod Cases
+pub mod Rows
