@@ -3,3 +3,4 @@ pub mod Demands
 pub mod Whole
 pub mod Cases
 pub mod Rows
+pub mod JudgeLaws

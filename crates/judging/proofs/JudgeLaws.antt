@@ -1,0 +1,86 @@
+-- The judge's own functions, put together from its phases.
+-- Assumes nothing.
+use Prim.Native.Nat.{ℕ, _+_, _-_, _*_, _≤_, _<_}
+use mathlib.Core.Path.{_≡_, refl, sym, ap, ap₂, _∙_}
+use mathlib.Core.List.{List, _++_, append-assoc}
+use native.Mathlib.Decide.{decLt}
+use native.Mathlib.Omega.{arith}
+use lib.Dec.{T}
+use lib.ListN.{length, getD, take, drop, replicate, length-append, length-drop, getD-replicate, length-replicate, List·getD-eq-default}
+use lib.Seq.{take-at, drop-append-add}
+use lib.Seq.{drop-drop}
+use Rattle.necklace.specs.Dag.{Dag}
+use Rattle.necklace.specs.Necklace.{Pattern}
+use Rattle.rows.specs.Rows.{rowsFrom, wholeFrom}
+use Rattle.rows.proofs.RowLaws.{length-rows}
+use Rattle.log_buffer.specs.Meaning.{logOf, stepsIn}
+use Rattle.pattern_buffer.specs.Meaning.{beadsIn, labelsIn, patternOf}
+use Rattle.pattern_buffer.proofs.Meaning.{pattern-well-formed}
+use Rattle.passes.proofs.Facts.{laid}
+use Rattle.phases.specs.Phases.{Tried, Unmarked, Marks, WalkedDownTo}
+use Rattle.judging.specs.Limits.{resultLength, rowLength}
+use Rattle.judging.specs.Judge.{rowsUpTo, wholeUpTo, rowsOf}
+use Rattle.judging.specs.Result.{resultFrom}
+use Rattle.judging.proofs.Rows.{counted, rows-are}
+
+-- ---- the result, from the arrays
+
+pub written-result : (beads n : ℕ) (prefixes pivots l mid last : List ℕ) → n ≤ 1024 → 10240 ≤ length l → mid ≡ rowsFrom beads prefixes pivots n ++ drop (10 * n) l
+    → last ≡ take (10 * n) mid ++ (replicate (10240 - 10 * n) 0 ++ drop 10240 mid) → last ≡ resultFrom beads prefixes pivots n l
+written-result beads n prefixes pivots l mid last h k e f =
+    let r = length-rows beads prefixes pivots n in
+    let q : 10240 ≡ length (rowsFrom beads prefixes pivots n) + (10240 - 10 * n) = omega arith in
+    let s : 10 * n + (10240 - 10 * n) ≡ 10240 = omega arith in
+    f
+    ∙ ap₂ (λ (x y : List ℕ). x ++ (replicate (10240 - 10 * n) 0 ++ y)) (ap (take (10 * n)) e ∙ take-at (rowsFrom beads prefixes pivots n) (drop (10 * n) l) (10 * n) r)
+    (ap (drop 10240) e ∙ ap (λ (m : ℕ). drop m (rowsFrom beads prefixes pivots n ++ drop (10 * n) l)) q
+    ∙ drop-append-add (rowsFrom beads prefixes pivots n) (drop (10 * n) l) (10240 - 10 * n) ∙ drop-drop (10240 - 10 * n) (10 * n) l ∙ ap (λ (m : ℕ). drop m l) s)
+
+pub rows-length-is : (beads n : ℕ) (prefixes pivots l mid : List ℕ) → n ≤ 1024 → 10240 ≤ length l → mid ≡ rowsFrom beads prefixes pivots n ++ drop (10 * n) l → 10240 ≤ length mid
+rows-length-is beads n prefixes pivots l mid h k e =
+    let r = length-rows beads prefixes pivots n in
+    let d = length-drop (10 * n) l in
+    let z = ap length e ∙ length-append (rowsFrom beads prefixes pivots n) (drop (10 * n) l) in
+    omega arith
+
+pub ruleset result-kit = (written-result, rows-length-is)
+
+-- ---- what the tests give
+
+zero-at : (n v : ℕ) → _≡_ {A = ℕ} (getD (replicate n 0) v 0) 0
+zero-at n v = go (decLt v n)
+  where
+    go : Dec (v < n) → _≡_ {A = ℕ} (getD (replicate n 0) v 0) 0
+    go (yes h) = getD-replicate n v 0 0 h
+    go (no h) = List·getD-eq-default (replicate n 0) 0 {n = v} (let e = length-replicate {A = ℕ} n 0 in omega arith)
+
+pub unmarked-zeros : (n : ℕ) → Unmarked (replicate n 0)
+unmarked-zeros n = record { none = zero-at n }
+
+module _ (pattern log : List ℕ) (t : Tried pattern log) where
+  pub beads-some : 1 ≤ getD pattern 1 0
+  unfolding patternOf
+  beads-some = pattern-well-formed pattern (t .is-pattern) .some-bead
+
+  pub beads-few : getD pattern 1 0 ≤ 8
+  unfolding patternOf
+  beads-few = pattern-well-formed pattern (t .is-pattern) .at-most
+
+  pub steps-few : getD log 0 0 ≤ 1024
+  steps-few = laid (labelsIn pattern) log (t .is-log) .few
+
+  module _ (prefixes pivots : List ℕ) (m : Marks (logOf log) (patternOf pattern) (stepsIn log) prefixes) where
+    pub count-judged : (c : ℕ) → c ≡ wholeFrom (getD pattern 1 0) prefixes (getD log 0 0) → c ≡ wholeUpTo (logOf log) (patternOf pattern) (logOf log .size)
+    unfolding patternOf logOf
+    count-judged c e = e ∙ counted (logOf log) (patternOf pattern) beads-some (stepsIn log) prefixes m (stepsIn log) (omega arith)
+
+    pub result-judged : (l last : List ℕ) → WalkedDownTo (logOf log) (patternOf pattern) (stepsIn log) 0 pivots
+        → last ≡ resultFrom (getD pattern 1 0) prefixes pivots (getD log 0 0) l → last ≡ rowsOf (logOf log) (patternOf pattern) ++ drop 10240 l
+    unfolding patternOf logOf
+    result-judged l last w e =
+        e
+        ∙ ap (λ (x : List ℕ). x ++ (replicate (resultLength - rowLength * stepsIn log) 0 ++ drop resultLength l))
+        (rows-are (logOf log) (patternOf pattern) beads-some (stepsIn log) prefixes m beads-few pivots w (stepsIn log) (omega arith))
+        ∙ sym (append-assoc (rowsUpTo (logOf log) (patternOf pattern) (stepsIn log)) (replicate (resultLength - rowLength * stepsIn log) 0) (drop resultLength l))
+
+pub ruleset tried-kit = (unmarked-zeros, beads-some, beads-few, steps-few, count-judged, result-judged)
