@@ -16,11 +16,12 @@ use Rattle.rows.proofs.RowLaws.{length-rows}
 use Rattle.log_buffer.specs.Meaning.{logOf, stepsIn}
 use Rattle.pattern_buffer.specs.Meaning.{beadsIn, labelsIn, patternOf}
 use Rattle.pattern_buffer.proofs.Meaning.{pattern-well-formed}
+use Rattle.pattern_buffer.proofs.Places.{passes-out}
 use Rattle.passes.proofs.Facts.{laid}
 use Rattle.phases.specs.Phases.{Tried, Unmarked, Marks, WalkedDownTo}
 use Rattle.judging.specs.Limits.{resultLength, rowLength}
 use Rattle.judging.specs.Judge.{rowsUpTo, wholeUpTo, rowsOf}
-use Rattle.judging.specs.Result.{resultFrom}
+use Rattle.judging.specs.Result.{resultFrom, Sized}
 use Rattle.judging.proofs.Rows.{counted, rows-are}
 
 -- ---- the result, from the arrays
@@ -57,30 +58,51 @@ zero-at n v = go (decLt v n)
 pub unmarked-zeros : (n : ℕ) → Unmarked (replicate n 0)
 unmarked-zeros n = record { none = zero-at n }
 
+module _ (pattern log : List ℕ) (beads n : ℕ) (s : Sized pattern log beads n) (prefixes : List ℕ) (m : Marks (logOf log) (patternOf pattern) (stepsIn log) prefixes) where
+  some : 1 ≤ beadsIn pattern
+  some = let e = s .beads-are in let h = s .some-bead in omega arith
+
+  few : beadsIn pattern ≤ 8
+  few = let e = s .beads-are in let h = s .few-beads in omega arith
+
+  pub count-judged : (c : ℕ) → c ≡ wholeFrom beads prefixes n → c ≡ wholeUpTo (logOf log) (patternOf pattern) (logOf log .size)
+  unfolding patternOf logOf
+  count-judged c e =
+      e ∙ ap₂ (λ (b v : ℕ). wholeFrom b prefixes v) (s .beads-are) (s .steps-are)
+      ∙ counted (logOf log) (patternOf pattern) some (stepsIn log) prefixes m (stepsIn log) (omega arith)
+
+  pub result-judged : (pivots l last : List ℕ) → WalkedDownTo (logOf log) (patternOf pattern) (stepsIn log) 0 pivots
+      → last ≡ resultFrom beads prefixes pivots n l → last ≡ rowsOf (logOf log) (patternOf pattern) ++ drop 10240 l
+  unfolding patternOf logOf
+  result-judged pivots l last w e =
+      e ∙ ap₂ (λ (b v : ℕ). resultFrom b prefixes pivots v l) (s .beads-are) (s .steps-are)
+      ∙ ap (λ (x : List ℕ). x ++ (replicate (resultLength - rowLength * stepsIn log) 0 ++ drop resultLength l))
+      (rows-are (logOf log) (patternOf pattern) some (stepsIn log) prefixes m few pivots w (stepsIn log) (omega arith))
+      ∙ sym (append-assoc (rowsUpTo (logOf log) (patternOf pattern) (stepsIn log)) (replicate (resultLength - rowLength * stepsIn log) 0) (drop resultLength l))
+
+pub sized-tried : (pattern log : List ℕ) (beads n : ℕ) → Sized pattern log beads n → Tried pattern log
+sized-tried pattern log beads n s = s .tried
+
 module _ (pattern log : List ℕ) (t : Tried pattern log) where
-  pub beads-some : 1 ≤ getD pattern 1 0
+  pub sized : (beads n : ℕ) → beads ≡ getD pattern 1 0 → n ≡ getD log 0 0 → Sized pattern log beads n
   unfolding patternOf
-  beads-some = pattern-well-formed pattern (t .is-pattern) .some-bead
+  sized beads n e f =
+      let p = pattern-well-formed pattern (t .is-pattern) in
+      let b = p .some-bead in
+      let c = p .at-most in
+      let l = laid (labelsIn pattern) log (t .is-log) .few in
+      record { tried = t; beads-are = e; steps-are = f; some-bead = omega arith; few-beads = omega arith; few-steps = omega arith }
 
-  pub beads-few : getD pattern 1 0 ≤ 8
-  unfolding patternOf
-  beads-few = pattern-well-formed pattern (t .is-pattern) .at-most
+  pub pattern-there : 1 < length pattern
+  pattern-there = let h = passes-out pattern (t .is-pattern) .long in omega arith
 
-  pub steps-few : getD log 0 0 ≤ 1024
-  steps-few = laid (labelsIn pattern) log (t .is-log) .few
+  pub log-there : 0 < length log
+  log-there = let h = laid (labelsIn pattern) log (t .is-log) .long in omega arith
 
-  module _ (prefixes pivots : List ℕ) (m : Marks (logOf log) (patternOf pattern) (stepsIn log) prefixes) where
-    pub count-judged : (c : ℕ) → c ≡ wholeFrom (getD pattern 1 0) prefixes (getD log 0 0) → c ≡ wholeUpTo (logOf log) (patternOf pattern) (logOf log .size)
-    unfolding patternOf logOf
-    count-judged c e = e ∙ counted (logOf log) (patternOf pattern) beads-some (stepsIn log) prefixes m (stepsIn log) (omega arith)
+-- The work buffer is all zeros once it is cleared.
+pub work-cleared : (old mid last : List ℕ) → length mid ≡ length old → last ≡ replicate (length mid) 0 → last ≡ replicate (length old) 0
+work-cleared old mid last n e = e ∙ ap (λ (k : ℕ). replicate k 0) n
 
-    pub result-judged : (l last : List ℕ) → WalkedDownTo (logOf log) (patternOf pattern) (stepsIn log) 0 pivots
-        → last ≡ resultFrom (getD pattern 1 0) prefixes pivots (getD log 0 0) l → last ≡ rowsOf (logOf log) (patternOf pattern) ++ drop 10240 l
-    unfolding patternOf logOf
-    result-judged l last w e =
-        e
-        ∙ ap (λ (x : List ℕ). x ++ (replicate (resultLength - rowLength * stepsIn log) 0 ++ drop resultLength l))
-        (rows-are (logOf log) (patternOf pattern) beads-some (stepsIn log) prefixes m beads-few pivots w (stepsIn log) (omega arith))
-        ∙ sym (append-assoc (rowsUpTo (logOf log) (patternOf pattern) (stepsIn log)) (replicate (resultLength - rowLength * stepsIn log) 0) (drop resultLength l))
+pub ruleset tried-kit = (sized, pattern-there, log-there, work-cleared)
 
-pub ruleset tried-kit = (unmarked-zeros, beads-some, beads-few, steps-few, count-judged, result-judged)
+pub ruleset arrays-kit = (unmarked-zeros, sized-tried, count-judged, result-judged)

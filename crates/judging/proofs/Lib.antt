@@ -4,3 +4,5 @@ pub mod Whole
 pub mod Cases
 pub mod Rows
 pub mod JudgeLaws
+pub mod FitLaws
+pub mod CallLaws

@@ -58,6 +58,10 @@ abbrev pub resultAfter : List ℕ → List ℕ → List ℕ → List ℕ → Lis
 resultAfter pattern log result work =
     cond (accepts pattern log result work) (rowsOf (logIn log) (patternIn pattern) ++ drop resultLength result) result
 
+-- So many zeros.
+unfoldable pub zeros : ℕ → List ℕ
+zeros n = replicate n 0
+
 -- The work buffer: all 0 after an accepted judging, the rest as it was.
 abbrev pub workAfter : List ℕ → List ℕ → List ℕ → List ℕ → List ℕ
-workAfter pattern log result work = cond (accepts pattern log result work) (replicate workLength 0 ++ drop workLength work) work
+workAfter pattern log result work = cond (accepts pattern log result work) (zeros workLength ++ drop workLength work) work

@@ -1,14 +1,19 @@
-// The judge's parts: what it does with buffers that passed their tests. The judge itself is still to come.
+// The judge: fills one row for each step of a log, by a pattern.
 ghost use mathlib.Core.Path.{_≡_};
-ghost use Prim.Native.Nat.{_≤_};
-ghost use lib.ListN.{length};
+ghost use mathlib.Core.List.{_++_};
+ghost use Prim.Native.Nat.{_≤_, _<_};
+ghost use lib.ListN.{length, drop, replicate};
 ghost use Rattle.log_buffer.specs.Meaning.{logOf, stepsIn};
 ghost use Rattle.pattern_buffer.specs.Meaning.{patternOf};
 ghost use Rattle.phases.specs.Phases.{Tried, Unmarked, Marks, WalkedDownTo};
-ghost use Rattle.judging.specs.Result.{resultFrom};
+ghost use Rattle.judging.specs.Result.{resultFrom, Sized};
+ghost use Rattle.judging.specs.Judge.{wholeUpTo, rowsOf, judgeAnswer, resultAfter, workAfter};
+ghost use Rattle.judging.specs.Fit.{fitAnswer, fitResult, fitWork};
+use answer::Answer;
+ghost use Rattle.rows.specs.Rows.{wholeFrom};
 
 // Both phases: the sets of prefixes, and the pivots.
-pub fn fill_arrays(
+fn fill_arrays(
     pattern: &[u16],
     log: &[u16],
     prefixes: &mut [u16],
@@ -27,11 +32,102 @@ pub fn fill_arrays(
 }
 
 // The rows of all steps, and zeros in the unused places.
-pub fn write_result(beads: u16, n: usize, prefixes: &[u16], pivots: &[u16], result: &mut [u16])
+fn write_result(beads: u16, n: usize, prefixes: &[u16], pivots: &[u16], result: &mut [u16])
     requires { ⌜ (1 ≤ beads) × (beads ≤ 8) × (n ≤ 1024) ⌝ }
     requires { ⌜ (10240 ≤ length (now result)) × (1024 ≤ length (now prefixes)) × (9216 ≤ length (now pivots)) ⌝ }
     ensures { λ _. ⌜ now (result .exit) ≡ resultFrom beads (now (prefixes .entry)) (now (pivots .entry)) n (now (result .entry)) ⌝ }
 {
     rows::write_rows(result, beads, n, prefixes, pivots);
     lists::clear(result, 10 * n, 10240);
+}
+
+// The result, and the number of steps at which the whole pattern holds.
+fn finish(beads: u16, n: usize, prefixes: &[u16], pivots: &[u16], result: &mut [u16]) -> u16
+    requires { ⌜ (1 ≤ beads) × (beads ≤ 8) × (n ≤ 1024) ⌝ }
+    requires { ⌜ (10240 ≤ length (now result)) × (1024 ≤ length (now prefixes)) × (9216 ≤ length (now pivots)) ⌝ }
+    ensures { λ r. ⌜ r ≡ wholeFrom beads (now (prefixes .entry)) n ⌝ }
+    ensures { λ _. ⌜ now (result .exit) ≡ resultFrom beads (now (prefixes .entry)) (now (pivots .entry)) n (now (result .entry)) ⌝ }
+{
+    write_result(beads, n, prefixes, pivots, result);
+    rows::count_whole(beads, n, prefixes)
+}
+
+// Judges buffers that passed their tests: their beads and steps are known.
+fn judge_arrays(
+    pattern: &[u16],
+    log: &[u16],
+    beads: u16,
+    n: usize,
+    result: &mut [u16],
+    work: &mut [u16],
+) -> u16
+    requires { ⌜ Sized (now pattern) (now log) beads n ⌝ }
+    requires { ⌜ (10240 ≤ length (now result)) × (16384 ≤ length (now work)) ⌝ }
+    ensures { λ r. ⌜ r ≡ wholeUpTo (logOf (now (log .entry))) (patternOf (now (pattern .entry))) (logOf (now (log .entry)) .size) ⌝ }
+    ensures { λ _. ⌜ now (result .exit) ≡ rowsOf (logOf (now (log .entry))) (patternOf (now (pattern .entry))) ++ drop 10240 (now (result .entry)) ⌝ }
+{
+    let mut prefixes = [0u16; 1024];
+    let mut pivots = [0u16; 9216];
+    fill_arrays(pattern, log, &mut prefixes, &mut pivots, work);
+    finish(beads, n, &prefixes, &pivots, result)
+}
+
+fn wide(x: u16) -> usize
+    ensures { λ r. ⌜ r ≡ x ⌝ }
+{
+    x as usize
+}
+
+// Judges buffers that passed their tests, and leaves zeros in the work buffer.
+fn judge_tried(pattern: &[u16], log: &[u16], result: &mut [u16], work: &mut [u16]) -> u16
+    requires { ⌜ Tried (now pattern) (now log) ⌝ }
+    requires { ⌜ (10240 ≤ length (now result)) × (16384 ≤ length (now work)) ⌝ }
+    ensures { λ r. ⌜ r ≡ wholeUpTo (logOf (now (log .entry))) (patternOf (now (pattern .entry))) (logOf (now (log .entry)) .size) ⌝ }
+    ensures { λ _. ⌜ now (result .exit) ≡ rowsOf (logOf (now (log .entry))) (patternOf (now (pattern .entry))) ++ drop 10240 (now (result .entry)) ⌝ }
+    ensures { λ _. ⌜ now (work .exit) ≡ replicate (length (now (work .entry))) 0 ⌝ }
+{
+    let beads = pattern[1];
+    let n = wide(log[0]);
+    let count = judge_arrays(pattern, log, beads, n, result, work);
+    backward::clear(work);
+    count
+}
+
+// Tests 6 and 7, and the judging, on buffers of their documented lengths.
+fn judge_fit(pattern: &[u16], log: &[u16], result: &mut [u16], work: &mut [u16]) -> Answer
+    requires { ⌜ (0 < length (now pattern)) × (10240 ≤ length (now result)) × (16384 ≤ length (now work)) ⌝ }
+    ensures { λ r. ⌜ r ≡ fitAnswer (now (pattern .entry)) (now (log .entry)) ⌝ }
+    ensures { λ _. ⌜ now (result .exit) ≡ fitResult (now (pattern .entry)) (now (log .entry)) (now (result .entry)) ⌝ }
+    ensures { λ _. ⌜ now (work .exit) ≡ fitWork (now (pattern .entry)) (now (log .entry)) (now (work .entry)) ⌝ }
+{
+    let known = pattern_buffer::is_pattern(pattern);
+    if known {
+        let fits = log_buffer::is_log(log, pattern[0]);
+        if fits {
+            return answer::accepted(judge_tried(pattern, log, result, work));
+        }
+        return answer::refused(7, 0);
+    }
+    answer::refused(6, 0)
+}
+
+// Judges a log by a pattern: fills one row for each step.
+pub fn judge(pattern: &[u16], log: &[u16], result: &mut [u16], work: &mut [u16]) -> Answer
+    ensures { λ r. ⌜ r ≡ judgeAnswer (now (pattern .entry)) (now (log .entry)) (now (result .entry)) (now (work .entry)) ⌝ }
+    ensures { λ _. ⌜ now (result .exit) ≡ resultAfter (now (pattern .entry)) (now (log .entry)) (now (result .entry)) (now (work .entry)) ⌝ }
+    ensures { λ _. ⌜ now (work .exit) ≡ workAfter (now (pattern .entry)) (now (log .entry)) (now (result .entry)) (now (work .entry)) ⌝ }
+{
+    if log.len() < 7170 {
+        return answer::refused(1, 0);
+    }
+    if pattern.len() < 2074 {
+        return answer::refused(2, 0);
+    }
+    if result.len() < 10240 {
+        return answer::refused(3, 0);
+    }
+    if work.len() < 16384 {
+        return answer::refused(4, 0);
+    }
+    judge_fit(&pattern[..2074], &log[..7170], result, &mut work[..16384])
 }

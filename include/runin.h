@@ -1,0 +1,80 @@
+/* The run-in log judge, for C: three calls on numbers and lent buffers.
+ *
+ * Link librunin.a (`rt staticlib runin` writes target/staticlib/librunin.a). Every call ends, tests what it is lent, allocates nothing,
+ * keeps nothing between calls and uses less than 64 KiB of stack. Lengths count elements, not bytes.
+ *
+ * What no contract covers: each pointer is valid for its length and aligned for its type, also where the length is 0 (use the address
+ * of any object then, not NULL), and the buffers of one call do not overlap.
+ */
+#ifndef RUNIN_H
+#define RUNIN_H
+
+#include <stddef.h>
+#include <stdint.h>
+
+#ifdef __cplusplus
+extern "C" {
+#endif
+
+/* Lengths of the lent buffers, in u16. A longer buffer is fine: what lies past these lengths is neither read nor written. */
+#define RUNIN_LOG_LENGTH 7170u
+#define RUNIN_PATTERN_LENGTH 2074u
+#define RUNIN_RESULT_LENGTH 10240u
+#define RUNIN_WORK_LENGTH 16384u
+
+/* A row of the result: ten numbers starting at ten times the step's number. */
+#define RUNIN_ROW_LENGTH 10u
+
+/* An answer is number, line, count in one u64. Number 0 is accepted; any other is a refusal. A refusal has count 0, line 0 except where a
+ * line of a text is at fault, and leaves every lent buffer as it was. */
+#define RUNIN_NUMBER(answer) ((uint32_t)((answer) >> 32))
+#define RUNIN_LINE(answer) ((uint32_t)(((answer) >> 16) & 0xffffu))
+#define RUNIN_COUNT(answer) ((uint32_t)((answer) & 0xffffu))
+
+/* The host program is at fault. */
+#define RUNIN_LOG_SHORT 1      /* log buffer shorter than RUNIN_LOG_LENGTH */
+#define RUNIN_PATTERN_SHORT 2  /* pattern buffer shorter than RUNIN_PATTERN_LENGTH */
+#define RUNIN_RESULT_SHORT 3   /* result buffer shorter than RUNIN_RESULT_LENGTH */
+#define RUNIN_WORK_SHORT 4     /* work buffer shorter than RUNIN_WORK_LENGTH */
+#define RUNIN_LABEL_COUNT 5    /* label count not 1 to 16 */
+#define RUNIN_NO_PATTERN 6     /* pattern buffer not what an accepted text gives */
+#define RUNIN_NO_LOG 7         /* log buffer not what an accepted text gives, with the pattern's label count */
+
+/* The pattern's writer is at fault. */
+#define RUNIN_PATTERN_SIZE 10  /* text empty or over 16,384 bytes */
+#define RUNIN_PATTERN_LINE 11  /* line too long, newline missing, byte outside 32 to 126; number of fields; a field that is no number */
+#define RUNIN_PATTERN_HEADER 12
+#define RUNIN_PATTERN_ORDER 13 /* bead or state out of order or over its limit, final over 1, nothing after the header */
+#define RUNIN_PATTERN_RULE 14  /* rule not SOME or ALL, changed inside a bead, or the same as the bead before */
+#define RUNIN_NEXT_STATE 15    /* next set with a state that the bead lacks */
+#define RUNIN_NEXT_COUNT 16    /* in an ALL bead, a next set without exactly one state */
+
+/* The log is at fault. */
+#define RUNIN_LOG_SIZE 20      /* text empty or over 65,535 bytes */
+#define RUNIN_LOG_LINE 21      /* as 11; board over 255; preds neither - nor numbers joined by single commas */
+#define RUNIN_LOG_HEADER 22
+#define RUNIN_STEP_NUMBER 23   /* step number not the line's number less two */
+#define RUNIN_LINKS 24         /* links of step 0, none elsewhere, not rising, not smaller than the step */
+#define RUNIN_LABELS 25        /* labels on step 0, or a label past the label count */
+#define RUNIN_LOG_LIMIT 26     /* a ninth link in a line, a step over 1,023, the 4,097th link, no step at all */
+
+/* Reads a pattern's text into the pattern buffer. Accepted: fills all RUNIN_PATTERN_LENGTH numbers, unused places with 0; the count is the
+ * number of beads. pattern[0] is the label count to hand to runin_read_log. Refusals: 2, 10 to 16. */
+uint64_t runin_read_pattern(const uint8_t *text, size_t text_len, uint16_t *pattern, size_t pattern_len);
+
+/* Reads a log's text into the log buffer. Accepted: fills all RUNIN_LOG_LENGTH numbers, unused places with 0; the count is the number of
+ * steps. Refusals: 1, 5, 20 to 26. */
+uint64_t runin_read_log(const uint8_t *text, size_t text_len, uint16_t label_count, uint16_t *log, size_t log_len);
+
+/* Judges a log by a pattern. Accepted: fills all RUNIN_RESULT_LENGTH numbers, a row a step and zeros, and leaves RUNIN_WORK_LENGTH zeros in
+ * the work buffer; the count is the number of steps at which the whole pattern holds. A row is the set of beginnings that hold (bit k - 1
+ * for the first k beads), then, if the whole pattern holds, its pivots p0 onward. The pattern and the log buffer are only read. Both
+ * other buffers may hold anything before the call. Refusals: 1, 2, 3, 4, 6, 7. */
+uint64_t runin_judge(const uint16_t *pattern, size_t pattern_len, const uint16_t *log, size_t log_len,
+                     uint16_t *result, size_t result_len, uint16_t *work, size_t work_len);
+
+#ifdef __cplusplus
+}
+#endif
+
+#endif
