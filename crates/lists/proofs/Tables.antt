@@ -1,4 +1,4 @@
--- Lists that a loop writes from the front, and stretches of zeros.
+-- Lists that a loop writes from the front, stretches of zeros, and copies.
 -- Assumes nothing.
 use mathlib.Core.Path.{_≡_, refl, sym, ap, ap₂, _∙_}
 use mathlib.Core.Bool.{Bool, true, false}
@@ -9,7 +9,7 @@ use native.Mathlib.Numerals.{add-one}
 use borrow.Author.Tests.{eqb-true, eqb-false}
 use lib.Dec.{eqb}
 use lib.ListN.{length, getD, take, drop, set, replicate, length-append, length-take, length-drop, length-replicate, drop-of-length-le, take-append-drop, List·getD-append}
-use lib.Seq.{drop-cons, set-at, append-snoc, getD-at, length-take-le, ext-getD}
+use lib.Seq.{drop-cons, set-at, append-snoc, getD-at, length-take-le, ext-getD, take-suc, take-all}
 use Rattle.lists.specs.Tables.{table}
 
 -- ---- a table
@@ -88,3 +88,21 @@ unfolding zeroed
 zeroed-end a i to l now h k e = let z : i ≡ to = omega arith in rw z at e
 
 pub ruleset clear-kit = (zeroed-none, zeroed-more, zeroed-end)
+
+-- ---- copied to the front
+
+pub copy-none : (s l : List ℕ) → l ≡ take 0 s ++ drop 0 l
+copy-none s l = refl
+
+module _ (s l to : List ℕ) (i : ℕ) (inv : to ≡ take i s ++ drop i l) where
+  pub copy-more : i < length s → length s ≤ length l → set to i (getD s i 0) ≡ take (i + 1) s ++ drop (i + 1) l
+  copy-more h fits =
+      ap (λ (x : List ℕ). set x i (getD s i 0)) (inv ∙ ap (λ (x : List ℕ). take i s ++ x) (drop-cons l i 0 (omega arith)))
+      ∙ set-at (take i s) (getD l i 0) (drop (suc i) l) (getD s i 0) i (length-take-le i s (omega arith))
+      ∙ sym (append-snoc (take i s) (getD s i 0) (drop (suc i) l))
+      ∙ ap₂ (λ (x : List ℕ) (k : ℕ). x ++ drop k l) (sym (take-suc s i 0 h) ∙ ap (λ (k : ℕ). take k s) (sym (add-one i))) (sym (add-one i))
+
+  pub copy-end : i ≤ length s → length s ≤ i → to ≡ s ++ drop (length s) l
+  copy-end h k = let e : i ≡ length s = omega arith in inv ∙ ap₂ (λ (x : List ℕ) (n : ℕ). x ++ drop n l) (take-all i s k) e
+
+pub ruleset copy-kit = (copy-none, copy-more, copy-end)

@@ -15,3 +15,15 @@ pub fn clear(buffer: &mut [u16], from: usize, to: usize)
         i += 1;
     }
 }
+
+// Writes the numbers in front of a buffer; its rest stays.
+pub fn copy(numbers: &[u16], to: &mut [u16])
+    requires { ⌜ length (now numbers) ≤ length (now to) ⌝ }
+    ensures { λ _. ⌜ now (to .exit) ≡ now (numbers .entry) ++ drop (length (now (numbers .entry))) (now (to .entry)) ⌝ }
+{
+    let mut i = 0;
+    while i < numbers.len() {
+        to[i] = numbers[i];
+        i += 1;
+    }
+}

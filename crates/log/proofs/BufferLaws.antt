@@ -15,24 +15,6 @@ use Rattle.log.specs.Buffer.{padded, begins, links, bufferOf}
 use Rattle.log.specs.Stores.{valuesStored, linksStored, StepStored}
 use Rattle.log_line.specs.declared.step.StepValues.{StepValues}
 
--- ---- copying from the front
-
-pub copied-none : (from to : List ℕ) → to ≡ take 0 from ++ drop 0 to
-copied-none from to = refl
-
-module _ (from old to : List ℕ) (i : ℕ) (fits : length from ≤ length old) (inv : to ≡ take i from ++ drop i old) where
-  pub copied-all : i ≤ length from → length from ≤ i → to ≡ from ++ drop (length from) old
-  copied-all h k = let e : i ≡ length from = omega arith in inv ∙ ap₂ (λ (a : List ℕ) (n : ℕ). a ++ drop n old) (take-all i from k) e
-
-  pub copied-more : i < length from → set to i (getD from i 0) ≡ take (i + 1) from ++ drop (i + 1) old
-  copied-more h =
-      let t : length (take i from) ≡ i = length-take-le i from (omega arith) in
-      ap (λ (l : List ℕ). set l i (getD from i 0)) (inv ∙ ap (λ (l : List ℕ). take i from ++ l) (drop-cons old i 0 (omega arith)))
-      ∙ set-at (take i from) (getD old i 0) (drop (suc i) old) (getD from i 0) i t
-      ∙ sym (rw (add-one i, take-suc from i 0 h) (append-snoc (take i from) (getD from i 0) (drop (suc i) old)))
-
-pub ruleset copy-kit = (copied-none, copied-all, copied-more)
-
 -- ---- the places of a step
 
 module _ (b : List ℕ) (n v before : ℕ) (size : length b ≡ 7170) (ok : InLimits n v before) where

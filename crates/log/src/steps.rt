@@ -6,7 +6,6 @@ ghost use Rattle.text.specs.Split.{split};
 ghost use Rattle.log_line.specs.Answers.{orderOf};
 ghost use Rattle.log.specs.Buffer.{answerOf, filledBy};
 ghost use Rattle.log.specs.Stores.{LineAdded, stepsRead};
-use crate::store::copy;
 use crate::store::store_step;
 use answer::Answer;
 use log_line::header::ColumnOrder;
@@ -78,6 +77,6 @@ pub fn read_steps(
     if v == 0 {
         return answer::refused(number_of(Refusal::Limit), 1);
     }
-    copy(&buffer, log);
+    lists::copy(&buffer, log);
     answer::accepted(v)
 }

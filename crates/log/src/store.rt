@@ -1,23 +1,10 @@
 // The log buffer, filled step by step.
 ghost use mathlib.Core.Path.{_≡_};
-ghost use mathlib.Core.List.{_++_};
 ghost use Prim.Native.Nat.{_+_, _≤_};
-ghost use lib.ListN.{length, drop};
+ghost use lib.ListN.{length};
 ghost use Rattle.log_line.specs.Answers.{stepWith, InLimits};
 ghost use Rattle.log.specs.Stores.{valuesStored, linksStored, StepStored};
 use log_line::step::StepValues;
-
-// Copies all numbers to the front of the other slice.
-pub fn copy(from: &[u16], to: &mut [u16])
-    requires { ⌜ length (now from) ≤ length (now to) ⌝ }
-    ensures { λ _. ⌜ now (to .exit) ≡ now (from .entry) ++ drop (length (now (from .entry))) (now (to .entry)) ⌝ }
-{
-    let mut i = 0;
-    while i < from.len() {
-        to[i] = from[i];
-        i += 1;
-    }
-}
 
 // Stores the step count, and at step v its label set, its board and where the links of the next step begin.
 pub fn store_values(buffer: &mut [u16], v: u16, before: u16, values: StepValues)
@@ -37,7 +24,7 @@ pub fn store_links(buffer: &mut [u16], before: u16, preds: &[u16])
     ensures { λ _. ⌜ now (buffer .exit) ≡ linksStored (now (buffer .entry)) before (now (preds .entry)) ⌝ }
 {
     let first = 3074 + before as usize;
-    copy(preds, &mut buffer[first..]);
+    lists::copy(preds, &mut buffer[first..]);
 }
 
 // Adds step v with these values and links to a buffer of the steps before it, which have so many links.

@@ -1,4 +1,4 @@
--- The turns of the copying loop, and what the stores of a row come to.
+-- What the stores of a row come to.
 -- Assumes nothing.
 use mathlib.Core.Path.{_≡_, refl, sym, ap, ap₂, _∙_}
 use mathlib.Core.Bool.{cond}
@@ -15,24 +15,6 @@ use Rattle.sets.specs.Sets.{singleton, union}
 use Rattle.pattern_line.specs.Limits.{bufferLength}
 use Rattle.pattern.specs.Store.{Storable, acceptingWith, beadAt, storedValues, stored}
 use Rattle.pattern_line.specs.declared.row.LineValues.{LineValues}
-
--- ---- copying
-
-pub copy-none : (s l : List ℕ) → l ≡ take 0 s ++ drop 0 l
-copy-none s l = refl
-
-module _ (s l to : List ℕ) (i : ℕ) (inv : to ≡ take i s ++ drop i l) where
-  pub copy-more : i < length s → length s ≤ length l → set to i (getD s i 0) ≡ take (i + 1) s ++ drop (i + 1) l
-  copy-more h fits =
-      ap (λ (x : List ℕ). set x i (getD s i 0)) (inv ∙ ap (λ (x : List ℕ). take i s ++ x) (drop-cons l i 0 (omega arith)))
-      ∙ set-at (take i s) (getD l i 0) (drop (suc i) l) (getD s i 0) i (length-take-le i s (omega arith))
-      ∙ sym (append-snoc (take i s) (getD s i 0) (drop (suc i) l))
-      ∙ ap₂ (λ (x : List ℕ) (k : ℕ). x ++ drop k l) (sym (take-suc s i 0 h) ∙ ap (λ (k : ℕ). take k s) (sym (add-one i))) (sym (add-one i))
-
-  pub copy-end : i ≤ length s → length s ≤ i → to ≡ s ++ drop (length s) l
-  copy-end h k = let e : i ≡ length s = omega arith in inv ∙ ap₂ (λ (x : List ℕ) (n : ℕ). x ++ drop n l) (take-all i s k) e
-
-pub ruleset copy-kit = (copy-none, copy-more, copy-end)
 
 -- ---- the final set
 

@@ -3,7 +3,6 @@ ghost use mathlib.Core.Path.{_≡_};
 ghost use Rattle.pattern.specs.Buffer.{patternAnswer, patternAfter};
 use crate::reading::TextAnswer;
 use crate::reading::read_text;
-use crate::store::copy;
 use answer::Answer;
 use pattern_line::refusals::number_of;
 
@@ -23,7 +22,7 @@ pub fn read_pattern(text: &[u8], pattern: &mut [u16]) -> Answer
     match read_text(text, &mut buffer) {
         TextAnswer::Refused(f, line) => answer::refused(number_of(f), line),
         TextAnswer::Beads(count) => {
-            copy(&buffer, pattern);
+            lists::copy(&buffer, pattern);
             answer::accepted(count)
         }
     }

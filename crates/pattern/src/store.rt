@@ -1,23 +1,9 @@
 // A row's numbers in the pattern buffer.
 ghost use mathlib.Core.Path.{_≡_};
-ghost use mathlib.Core.List.{_++_};
-ghost use Prim.Native.Nat.{_≤_};
-ghost use lib.ListN.{length, drop};
+ghost use lib.ListN.{length};
 ghost use Rattle.pattern_line.specs.Limits.{bufferLength};
 ghost use Rattle.pattern.specs.Store.{Storable, acceptingWith, storedValues, stored};
 use pattern_line::row::LineValues;
-
-// Writes the numbers in front of a buffer; its rest stays.
-pub fn copy(numbers: &[u16], to: &mut [u16])
-    requires { ⌜ length (now numbers) ≤ length (now to) ⌝ }
-    ensures { λ _. ⌜ now (to .exit) ≡ now (numbers .entry) ++ drop (length (now (numbers .entry))) (now (to .entry)) ⌝ }
-{
-    let mut i = 0;
-    while i < numbers.len() {
-        to[i] = numbers[i];
-        i += 1;
-    }
-}
 
 // The final set with the state, where the line says that it is final.
 pub fn accepting_with(set: u16, v: LineValues) -> u16
@@ -51,5 +37,5 @@ pub fn store_row(buffer: &mut [u16], v: LineValues, next: &[u16])
     store_values(buffer, v);
     let from = 26 + 256 * (v.bead as usize - 1) + 16 * v.state as usize;
     let to = from + 16;
-    copy(next, &mut buffer[from..to]);
+    lists::copy(next, &mut buffer[from..to]);
 }

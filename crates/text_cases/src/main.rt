@@ -1,48 +1,73 @@
-// Each function of `text` at its edges, a line a case; at the end, how many cases of each kind were tried.
-mod fields;
-mod lines;
-mod numbers;
-mod same;
-mod walk;
-
-enum Kind {
-    Numbers,
-    Lines,
-    Fields,
-    Same,
-    Walk,
-}
+// Each function of `text` at its edges, on the cases of `cases.txt`, a line a case; at the end, how many cases of each kind were tried.
+//
+// A line of the file has its columns parted by tabs: what is tried, the kind, the bytes as a script (`trial::expand`), and what the
+// kind takes besides them: the other bytes of a comparison, the allowed size of a scan.
+mod show;
 
 fn main() {
-    let numbers = run(Kind::Numbers);
-    let lines = run(Kind::Lines);
-    let fields = run(Kind::Fields);
-    let same = run(Kind::Same);
-    let walk = run(Kind::Walk);
-    trial::print_count(b"cases of numbers", numbers);
-    trial::print_count(b"cases of lines", lines);
-    trial::print_count(b"cases of fields", fields);
-    trial::print_count(b"cases of same", same);
-    trial::print_count(b"cases of scans", walk);
+    let mut file = [0u8; 16384];
+    let n = trial::load(b"cases.txt", &mut file);
+    try_cases(&file[..n]);
 }
 
-// Tries the cases of a kind in turn until there is no next one, at most 1000, and answers how many there were.
-fn run(kind: Kind) -> u64 {
-    for i in 0..1000u64 {
-        if !try_case(kind, i) {
-            return i;
-        }
+fn try_cases(file: &[u8]) {
+    let mut counts = [0u16; 8];
+    let mut at = 0;
+    while at < file.len() {
+        let end = trial::find_byte(file, at, b'\n');
+        let kind = try_case(trial::part(file, at, end));
+        trial::tally(&mut counts, kind);
+        at = end + 1;
     }
-    1000
+    print_counts(&counts);
 }
 
-// Is there a case with this index? If so, it is tried and printed.
-fn try_case(kind: Kind, i: u64) -> bool {
+// Tries a case and answers its kind's index among the counts.
+fn try_case(line: &[u8]) -> u16 {
+    let mut bytes = [0u8; 1100];
+    let n = trial::expand(trial::column(line, 2), &mut bytes);
+    let kind = kind_of(trial::get_byte(trial::column(line, 1), 0));
+    let other = trial::column(line, 3);
+    trial::print_bytes(trial::column(line, 0));
+    trial::print_bytes(b": ");
+    show_answer(kind, &bytes[..n], other);
+    trial::print_line(b"");
+    kind
+}
+
+// The first letter of `number`, `line`, `spaces`, `commas`, `missing`, `equal`, `walk`.
+fn kind_of(letter: u8) -> u16 {
+    match letter {
+        b'n' => 0,
+        b'l' => 1,
+        b's' => 2,
+        b'c' => 3,
+        b'm' => 4,
+        b'e' => 5,
+        b'w' => 6,
+        _ => 7,
+    }
+}
+
+fn show_answer(kind: u16, bytes: &[u8], other: &[u8]) {
     match kind {
-        Kind::Numbers => numbers::try_case(i),
-        Kind::Lines => lines::try_case(i),
-        Kind::Fields => fields::try_case(i),
-        Kind::Same => same::try_case(i),
-        Kind::Walk => walk::try_case(i),
+        0 => show::number(bytes),
+        1 => show::line(bytes),
+        2 => show::fields(bytes, b' '),
+        3 => show::fields(bytes, b','),
+        4 => show::place(bytes, b' ', 18446744073709551615),
+        5 => show::equal(bytes, other),
+        6 => show::walk(bytes, trial::number(other) as usize),
+        _ => trial::print_bytes(b"NO SUCH KIND"),
     }
+}
+
+fn print_counts(counts: &[u16]) {
+    trial::print_count(b"numbers tried", trial::get(counts, 0) as u64);
+    trial::print_count(b"lines tried", trial::get(counts, 1) as u64);
+    trial::print_count(b"lines split at spaces", trial::get(counts, 2) as u64);
+    trial::print_count(b"lines split at commas", trial::get(counts, 3) as u64);
+    trial::print_count(b"single places tried", trial::get(counts, 4) as u64);
+    trial::print_count(b"comparisons tried", trial::get(counts, 5) as u64);
+    trial::print_count(b"texts scanned", trial::get(counts, 6) as u64);
 }

@@ -1,8 +1,8 @@
 -- `print_places` ends after count turns.
 use Prim.Native.Nat.{_≤_, _-_}
 use borrow.Author.Needs.{needs}
-use Rattle.text_cases.proofs.fields.print_places.Statement.{statement}
-use Rattle.text_cases.proofs.fields.print_places.Tie as tie
+use Rattle.text_cases.proofs.show.print_places.Statement.{statement}
+use Rattle.text_cases.proofs.show.print_places.Tie as tie
 
 abbrev Inv-loop : tie.InvT-loop
 Inv-loop line separator count index₀ index = index ≤ count
@@ -13,8 +13,8 @@ abbrev μ-loop : tie.MeasureT-loop
 loop-holds : tie.Need-loop-holds Inv-loop μ-loop
 loop-holds c = search needs
 
-print-place-requires : tie.Need-print-place-requires Inv-loop μ-loop
-print-place-requires c κs = search needs
+next-place-requires : tie.Need-next-place-requires Inv-loop μ-loop
+next-place-requires c κs = search needs
 
 add-index : tie.Need-add-index Inv-loop μ-loop
 add-index c = search needs
@@ -35,7 +35,7 @@ print-places-spec =
     Inv-loop
     μ-loop
     loop-holds
-    print-place-requires
+    next-place-requires
     add-index
     loop-less
     loop-again

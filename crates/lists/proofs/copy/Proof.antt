@@ -1,18 +1,18 @@
--- The loop keeps: the numbers copied, and the old ones after them.
-use Rattle.log.proofs.BufferLaws.{copy-kit}
+-- The loop keeps: the numbers passed are written, the rest is as it was.
+use mathlib.Core.List.{_++_}
 use lib.ListN.{length, take, drop}
 use mathlib.Core.Path.{_≡_}
-use mathlib.Core.List.{_++_}
-use Prim.Native.Nat.{_≤_, _+_, _-_}
+use Prim.Native.Nat.{_≤_, _-_, _+_}
 use borrow.Author.Needs.{needs}
-use Rattle.log.proofs.store.copy.Statement.{statement}
-use Rattle.log.proofs.store.copy.Tie as tie
+use Rattle.lists.proofs.Tables.{copy-kit}
+use Rattle.lists.proofs.copy.Statement.{statement}
+use Rattle.lists.proofs.copy.Tie as tie
 
 abbrev Inv-loop : tie.InvT-loop
-Inv-loop from to₀ i₀ to i = (i ≤ length from) × (length to ≡ length to₀) × (to ≡ take i from ++ drop i to₀)
+Inv-loop numbers to₀ i₀ to i = (i ≤ length numbers) × (length numbers ≤ length to₀) × (length to ≡ length to₀) × (to ≡ take i numbers ++ drop i to₀)
 
 abbrev μ-loop : tie.MeasureT-loop
-μ-loop from to₀ i₀ to i = length from - i
+μ-loop numbers to₀ i₀ to i = length numbers - i
 
 loop-holds : tie.Need-loop-holds Inv-loop μ-loop
 loop-holds c = search (needs, copy-kit)

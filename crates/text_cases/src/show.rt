@@ -1,0 +1,83 @@
+// What each function of `text` answers, in words.
+use text::fields::Field;
+use text::lines::Line;
+use text::lines::LineFault;
+use text::numbers::Number;
+use text::walk::Scan;
+
+pub fn number(field: &[u8]) {
+    match text::numbers::read_number(field) {
+        Number::Value(value) => trial::print_number(value as u64),
+        Number::Malformed => trial::print_bytes(b"malformed"),
+    }
+}
+
+// The first line of a text, with at most 240 bytes before its newline.
+pub fn line(bytes: &[u8]) {
+    match text::lines::read_line(bytes, 240) {
+        Line::Whole(n) => print_with(b"whole, length ", n as u64),
+        Line::Broken(fault) => print_fault(fault),
+    }
+}
+
+fn print_fault(fault: LineFault) {
+    match fault {
+        LineFault::Long => trial::print_bytes(b"too long"),
+        LineFault::Unended => trial::print_bytes(b"no newline"),
+        LineFault::Unprintable => trial::print_bytes(b"a byte outside 32 to 126"),
+    }
+}
+
+// How many fields there are, and the place of each and of the one past the last.
+pub fn fields(line: &[u8], separator: u8) {
+    let count = text::fields::field_count(line, separator);
+    trial::print_number(count as u64);
+    print_places(line, separator, count);
+    next_place(line, separator, count);
+}
+
+fn print_places(line: &[u8], separator: u8, count: usize) {
+    for index in 0..count {
+        next_place(line, separator, index);
+    }
+}
+
+fn next_place(line: &[u8], separator: u8, index: usize) {
+    trial::print_bytes(b"; ");
+    place(line, separator, index);
+}
+
+pub fn place(line: &[u8], separator: u8, index: usize) {
+    trial::print_number(index as u64);
+    match text::fields::find_field(line, separator, index) {
+        Field::At(from, to) => print_span(from as u64, to as u64),
+        Field::Missing => trial::print_bytes(b" missing"),
+    }
+}
+
+fn print_span(from: u64, to: u64) {
+    print_with(b" at ", from);
+    print_with(b"..", to);
+}
+
+pub fn equal(a: &[u8], b: &[u8]) {
+    if text::fields::same(a, b) {
+        trial::print_bytes(b"the same");
+    } else {
+        trial::print_bytes(b"not the same");
+    }
+}
+
+// A text walked line by line, with at most 240 bytes before a newline.
+pub fn walk(bytes: &[u8], size: usize) {
+    match text::walk::scan_lines(bytes, size, 240) {
+        Scan::Lines(count) => print_with(b"whole lines ", count as u64),
+        Scan::BadSize => trial::print_bytes(b"bad size"),
+        Scan::BadLine(line) => print_with(b"bad line ", line as u64),
+    }
+}
+
+fn print_with(what: &[u8], n: u64) {
+    trial::print_bytes(what);
+    trial::print_number(n);
+}
