@@ -1,1 +1,3 @@
+pub mod FileLaws
+pub mod LineLaws
 pub mod LoadLaws

@@ -1,4 +1,6 @@
 // The report's lines, written to standard output.
+ghost use Rattle.report.specs.Written.{Written};
+ghost use Rattle.judge_files.specs.Lines.{lineOfStep};
 use answer::Answer;
 
 pub fn print_refusal(a: Answer) {
@@ -22,11 +24,18 @@ fn print_header() {
 }
 
 fn print_row(beads: u16, step: u16, result: &[u16]) {
-    let from = 10 * step as usize;
-    if from + 10 > result.len() {
-        return;
-    }
     let mut line = [0u8; 80];
-    let end = report::row_line(beads, step, &result[from..from + 10], &mut line);
+    let end = line_of_step(beads, step, result, &mut line);
     io::write_all(libc::STDOUT_FILENO, &line[..end]);
+}
+
+// The line of a step; nothing where the result is too short to have its row.
+fn line_of_step(beads: u16, step: u16, result: &[u16], line: &mut [u8; 80]) -> usize
+    ensures { λ r. ⌜ Written (lineOfStep beads step (now (result .entry))) (now (line .entry)) r (now (line .exit)) ⌝ }
+{
+    let from = 10 * step as usize;
+    if result.len() < from + 10 {
+        return 0;
+    }
+    report::row_line(beads, step, &result[from..from + 10], line)
 }
