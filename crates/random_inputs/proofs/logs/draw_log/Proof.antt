@@ -1,0 +1,64 @@
+-- `draw_log`: a turn a step.
+use Prim.Native.Nat.{_-_}
+use borrow.Author.Needs.{needs}
+use lib.ListN.{length}
+use mathlib.Core.Path.{_≡_}
+use Rattle.random_inputs.proofs.logs.draw_log.Statement.{statement}
+use Rattle.random_inputs.proofs.logs.draw_log.Tie as tie
+
+abbrev Inv-loop : tie.InvT-loop
+Inv-loop log₀ steps labels links carried r₀ w₀ log r w = length log ≡ length log₀
+
+abbrev μ-loop : tie.MeasureT-loop
+μ-loop log₀ steps labels links carried r₀ w₀ log r w = steps - w
+
+next-requires : tie.Need-next-requires Inv-loop μ-loop
+next-requires c κs = search needs
+
+below-requires : tie.Need-below-requires Inv-loop μ-loop
+below-requires c κs = search needs
+
+cast-add-step : tie.Need-cast-add-step Inv-loop μ-loop
+cast-add-step c = search needs
+
+add-step-requires : tie.Need-add-step-requires Inv-loop μ-loop
+add-step-requires c κs = search needs
+
+loop-holds : tie.Need-loop-holds Inv-loop μ-loop
+loop-holds c = search needs
+
+draw-step-requires : tie.Need-draw-step-requires Inv-loop μ-loop
+draw-step-requires c κs = search needs
+
+add-w : tie.Need-add-w Inv-loop μ-loop
+add-w c = search needs
+
+loop-less : tie.Need-loop-less Inv-loop μ-loop
+loop-less c = search needs
+
+loop-again : tie.Need-loop-again Inv-loop μ-loop
+loop-again c = search needs
+
+same-length : tie.Need-same-length Inv-loop μ-loop
+same-length c = search needs
+
+returns : tie.Need-returns Inv-loop μ-loop
+returns c = search needs
+
+pub draw-log-spec : {M : Type 1} → statement M
+draw-log-spec =
+    tie.close
+    (tie.spec
+    Inv-loop
+    μ-loop
+    next-requires
+    below-requires
+    cast-add-step
+    add-step-requires
+    loop-holds
+    draw-step-requires
+    add-w
+    loop-less
+    loop-again
+    same-length
+    returns)
