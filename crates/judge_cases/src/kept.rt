@@ -1,15 +1,4 @@
-// What the judge left in the buffers, which were all marks before it: what was to be kept, and what was to be 0.
-use crate::rows::is_rest_zero;
-
-// After number 0.
-pub fn print_accepted(pattern: &[u16], log: &[u16], result: &[u16], work: &[u16]) {
-    let mut marks = [0u16; 16390];
-    trial::mark(&mut marks);
-    print_claim(b"; unused places 0", is_rest_zero(pattern, log, result));
-    print_claim(b", result guard kept", is_same(result, &marks, 10240));
-    print_claim(b", work 0", is_zero(work, 16384));
-    print_claim(b", work guard kept", is_same(work, &marks, 16384));
-}
+// What the judge left in the result and work buffers, which were all marks before it: what was to be kept, and what was to be 0.
 
 // After a refusal.
 pub fn print_unchanged(result: &[u16], work: &[u16]) {
@@ -17,25 +6,24 @@ pub fn print_unchanged(result: &[u16], work: &[u16]) {
     print_claim(b", work kept", trial::is_marked(work));
 }
 
-// The buffers that the judge only reads: their sums of sums before and after it.
-pub fn print_read(pattern_kept: bool, log_kept: bool) {
-    print_claim(b", pattern kept", pattern_kept);
-    print_claim(b", log kept", log_kept);
-    trial::print_line(b"");
+// After number 0.
+pub fn print_work(work: &[u16]) {
+    print_claim(b", work 0", is_zero(work, 0, 16384));
+    print_claim(b", guard kept", is_guarded(work, 16384));
 }
 
 // A claim that fails is printed with a word more.
-fn print_claim(claim: &[u8], holds: bool) {
-    trial::print_bytes(claim);
+pub fn print_claim(claim: &[u8], holds: bool) {
     if !holds {
-        trial::print_bytes(b" FAILS");
+        trial::print_bytes(b" FAILS:");
     }
+    trial::print_bytes(claim);
 }
 
-// Are the first n numbers all 0?
-fn is_zero(s: &[u16], n: usize) -> bool {
-    let mut i = 0;
-    while i < n {
+// Are the numbers from one index up to another all 0?
+pub fn is_zero(s: &[u16], from: usize, to: usize) -> bool {
+    let mut i = from;
+    while i < to {
         if trial::get(s, i) != 0 {
             return false;
         }
@@ -44,7 +32,13 @@ fn is_zero(s: &[u16], n: usize) -> bool {
     true
 }
 
-// Has the other slice the same numbers from this index on?
+// Are the numbers from this index on still marks?
+pub fn is_guarded(s: &[u16], from: usize) -> bool {
+    let mut marks = [0u16; 16390];
+    trial::mark(&mut marks);
+    is_same(s, &marks, from)
+}
+
 fn is_same(s: &[u16], other: &[u16], from: usize) -> bool {
     let mut i = from;
     while i < s.len() {

@@ -1,52 +1,53 @@
-// The rows of the result buffer, and the places of it that no row uses.
+// The rows of the result buffer. Each number up to a row's last one that is not 0 is printed, so a number in an unused place shows.
+use crate::kept::is_guarded;
+use crate::kept::is_zero;
+use crate::kept::print_claim;
+ghost use Prim.Native.Nat.{_≤_};
 
-// The rows, ` v:prefixes:pivots` each; of a log of more than 16 steps the sum of sums of the 10240 numbers in their place.
-pub fn print_rows(pattern: &[u16], log: &[u16], result: &[u16]) {
-    let steps = trial::get(log, 0);
+// The rows, ` v:prefixes:p0,p1` and so on; of a log of more than 16 steps the sum of sums of the 10240 numbers in their place.
+pub fn print_rows(steps: u16, result: &[u16]) {
     if steps > 16 {
         trial::print_bytes(b" sum ");
-        trial::print_number(trial::sum_of_sums(crate::front(result, 10240)) as u64);
-        return;
+        trial::print_number(sum(result) as u64);
+    } else {
+        trial::print_bytes(b" rows");
+        print_each(steps, result);
     }
-    trial::print_bytes(b" rows");
-    print_each(trial::get(pattern, 1), steps, result);
+    print_claim(b"; rest 0", is_zero(result, place(steps, 0), 10240));
+    print_claim(b", guard kept", is_guarded(result, 10240));
 }
 
-fn print_each(beads: u16, steps: u16, result: &[u16]) {
+fn sum(result: &[u16]) -> u32 {
+    if result.len() < 10240 {
+        return 0;
+    }
+    trial::sum_of_sums(&result[..10240])
+}
+
+fn print_each(steps: u16, result: &[u16]) {
     let mut v = 0;
     while v < steps {
-        print_row(beads, v, result);
+        print_row(v, result);
         v += 1;
     }
 }
 
-fn print_row(beads: u16, v: u16, result: &[u16]) {
-    let at = v as usize * 10;
-    let prefixes = trial::get(result, at);
-    trial::print_bytes(b" ");
-    trial::print_number(v as u64);
-    trial::print_bytes(b":");
-    trial::print_number(prefixes as u64);
-    if is_whole(beads, prefixes) {
-        print_pivots(beads, at + 1, result);
-    } else {
-        trial::print_bytes(b":-");
-    }
-}
-
-// One pivot more than there are beads.
-fn print_pivots(beads: u16, at: usize, result: &[u16]) {
-    print_after(b":", trial::get(result, at));
+fn print_row(v: u16, result: &[u16]) {
+    print_after(b" ", v);
+    let n = last_used(v, result);
     let mut i = 0;
-    while i < beads {
-        print_after(b",", pivot(result, at, i));
+    while i <= n {
+        print_place(i, trial::get(result, place(v, i)));
         i += 1;
     }
 }
 
-// The pivot of the bead with this index, from 0.
-fn pivot(result: &[u16], at: usize, i: u16) -> u16 {
-    trial::get(result, std::num::wrapping_add_usize(at, i as usize + 1))
+fn print_place(i: u16, n: u16) {
+    if i < 2 {
+        print_after(b":", n);
+    } else {
+        print_after(b",", n);
+    }
 }
 
 fn print_after(sign: &[u8], n: u16) {
@@ -54,42 +55,21 @@ fn print_after(sign: &[u8], n: u16) {
     trial::print_number(n as u64);
 }
 
-// Is the bit of the whole pattern, of 1 to 16 beads, set?
-fn is_whole(beads: u16, prefixes: u16) -> bool {
-    if beads == 0 {
-        return false;
-    }
-    if beads > 16 {
-        return false;
-    }
-    (prefixes >> (beads - 1)) % 2 == 1
-}
-
-// Is each of the 10240 numbers that no row uses 0?
-pub fn is_rest_zero(pattern: &[u16], log: &[u16], result: &[u16]) -> bool {
-    let mut i = 0;
-    while i < 10240 {
-        if is_stray(trial::get(pattern, 1), trial::get(log, 0), i, result) {
-            return false;
+// The last place of the row with a number other than 0; the first place where there is none.
+fn last_used(v: u16, result: &[u16]) -> u16
+    ensures { λ r. ⌜ r ≤ 9 ⌝ }
+{
+    let mut i = 9;
+    while i > 0 {
+        if trial::get(result, place(v, i)) != 0 {
+            return i;
         }
-        i += 1;
+        i -= 1;
     }
-    true
+    0
 }
 
-// Is the number in this place unused and not 0?
-fn is_stray(beads: u16, steps: u16, i: usize, result: &[u16]) -> bool {
-    if trial::get(result, i) == 0 {
-        return false;
-    }
-    if i / 10 >= steps as usize {
-        return true;
-    }
-    if i % 10 == 0 {
-        return false;
-    }
-    if i % 10 > beads as usize + 1 {
-        return true;
-    }
-    !is_whole(beads, trial::get(result, i - i % 10))
+// A row is ten numbers starting at ten times the step's number.
+fn place(v: u16, i: u16) -> usize {
+    v as usize * 10 + i as usize
 }

@@ -1,18 +1,36 @@
 // Settings: items joined by commas. `P`, `L`, `R`, `W` with a number: how many numbers of the pattern, log, result and work buffer
 // the judge is lent. `c` with a number: the label count that the log reader is handed in place of the pattern's. `p` and `l` with a
 // place, `=` and a number: that place of the pattern or log buffer is set to the number after reading.
+ghost use Prim.Native.Nat.{_≤_};
 
 // The number of the first item with this letter; without such an item the other one.
-pub fn value(settings: &[u8], letter: u8, other: usize) -> usize {
+pub fn value(settings: &[u8], letter: u8, other: u16) -> u16 {
     let mut at = 0;
     while at < settings.len() {
         let end = trial::find_byte(settings, at, b',');
         if settings[at] == letter {
-            return trial::number(trial::part(settings, at + 1, end)) as usize;
+            return read_u16(trial::part(settings, at + 1, end));
         }
         at = end + 1;
     }
     other
+}
+
+// The same, or the most where that is less.
+pub fn at_most(settings: &[u8], letter: u8, most: usize) -> usize
+    ensures { λ r. ⌜ r ≤ most ⌝ }
+{
+    let n = value(settings, letter, 65535) as usize;
+    if n < most {
+        return n;
+    }
+    most
+}
+
+// As many numbers of the buffer as the settings say.
+pub fn lent<'a>(settings: &[u8], letter: u8, buffer: &'a [u16]) -> &'a [u16] {
+    let n = at_most(settings, letter, buffer.len());
+    &buffer[..n]
 }
 
 // Sets the place of each item with this letter.
@@ -31,13 +49,14 @@ fn set_place(item: &[u8], letter: u8, buffer: &mut [u16]) {
         return;
     }
     let sign = trial::find_byte(item, 0, b'=');
-    let place = trial::number(trial::part(item, 1, sign)) as usize;
-    let number = trial::number(trial::part(item, sign + 1, item.len())) as usize;
-    trial::put(buffer, place, narrow(number));
+    let place = read_u16(trial::part(item, 1, sign));
+    let number = read_u16(trial::part(item, sign + 1, item.len()));
+    trial::put(buffer, place as usize, number);
 }
 
 // A number over 65535 counts as 65535.
-pub fn narrow(n: usize) -> u16 {
+fn read_u16(digits: &[u8]) -> u16 {
+    let n = trial::number(digits);
     if n > 65535 {
         return 65535;
     }

@@ -1,14 +1,14 @@
--- `is_zero` ends after n turns.
+-- `is_zero` ends at the second index.
 use Prim.Native.Nat.{_+_, _≤_, _-_}
 use borrow.Author.Needs.{needs}
 use Rattle.judge_cases.proofs.kept.is_zero.Statement.{statement}
 use Rattle.judge_cases.proofs.kept.is_zero.Tie as tie
 
 abbrev Inv-loop : tie.InvT-loop
-Inv-loop s n i₀ i = i ≤ n
+Inv-loop s from to i₀ i = 0 ≤ i
 
 abbrev μ-loop : tie.MeasureT-loop
-μ-loop s n i₀ i = n - i
+μ-loop s from to i₀ i = to - i
 
 loop-holds : tie.Need-loop-holds Inv-loop μ-loop
 loop-holds c = search needs

@@ -5,10 +5,10 @@ use Rattle.judge_cases.proofs.rows.print_each.Statement.{statement}
 use Rattle.judge_cases.proofs.rows.print_each.Tie as tie
 
 abbrev Inv-loop : tie.InvT-loop
-Inv-loop beads steps result v₀ v = v ≤ steps
+Inv-loop steps result v₀ v = v ≤ steps
 
 abbrev μ-loop : tie.MeasureT-loop
-μ-loop beads steps result v₀ v = steps - v
+μ-loop steps result v₀ v = steps - v
 
 loop-holds : tie.Need-loop-holds Inv-loop μ-loop
 loop-holds c = search needs
