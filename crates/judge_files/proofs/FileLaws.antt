@@ -20,26 +20,26 @@ log-read text pattern log log′ labels n r e h a f =
     record { size = n; fits = h; answered = rw e at a; left = rw e at f }
 
 pub stopped-at-log : (text pattern log result work log′ : List ℕ) (r : Answer)
-    → LogRead text pattern log r log′ → 0 < r .number → LogJudged text pattern log result work r log′ result work
+    → LogRead text pattern log r log′ → (r .number ≡ 0 → ⊥) → LogJudged text pattern log result work r log′ result work
 stopped-at-log text pattern log result work log′ r d h = log-refused d h refl refl
 
 pub judged-log : (text pattern log result work log′ result′ work′ : List ℕ) (a r : Answer)
-    → LogRead text pattern log a log′ → a .number ≤ 0
+    → LogRead text pattern log a log′ → a .number ≡ 0
     → r ≡ judgeAnswer pattern log′ result work
     → result′ ≡ resultAfter pattern log′ result work
     → work′ ≡ workAfter pattern log′ result work
     → LogJudged text pattern log result work r log′ result′ work′
-judged-log text pattern log result work log′ result′ work′ a r d h e f g = log-judged a d (omega arith) e f g
+judged-log text pattern log result work log′ result′ work′ a r d h e f g = log-judged a d h e f g
 
 pub stopped-at-pattern : (patternText logText pattern log result work pattern′ : List ℕ) (r : Answer)
-    → PatternRead patternText pattern r pattern′ → 0 < r .number
+    → PatternRead patternText pattern r pattern′ → (r .number ≡ 0 → ⊥)
     → Run patternText logText pattern log result work r pattern′ log result work
 stopped-at-pattern patternText logText pattern log result work pattern′ r d h = pattern-refused d h refl refl refl
 
 pub judged-both : (patternText logText pattern log result work pattern′ log′ result′ work′ : List ℕ) (a r : Answer)
-    → PatternRead patternText pattern a pattern′ → a .number ≤ 0
+    → PatternRead patternText pattern a pattern′ → a .number ≡ 0
     → LogJudged logText pattern′ log result work r log′ result′ work′
     → Run patternText logText pattern log result work r pattern′ log′ result′ work′
-judged-both patternText logText pattern log result work pattern′ log′ result′ work′ a r d h j = pattern-read a d (omega arith) j
+judged-both patternText logText pattern log result work pattern′ log′ result′ work′ a r d h j = pattern-read a d h j
 
 pub ruleset kit = (no-labels, log-read, stopped-at-log, judged-log, stopped-at-pattern, judged-both)

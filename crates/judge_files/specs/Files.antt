@@ -1,6 +1,6 @@
 -- What `judge` answers, and what it leaves in the lent buffers, by the texts of its two files (document 01, "Who is at fault": it
 -- reads the pattern first). What a file holds is not known here: its text is so many bytes at the start of a text buffer.
-use Prim.Native.Nat.{ℕ, _≤_, _<_}
+use Prim.Native.Nat.{ℕ, _≤_}
 use mathlib.Core.List.{List}
 use mathlib.Core.Path.{_≡_}
 use lib.ListN.{length, getD, take}
@@ -26,7 +26,7 @@ pub record LogRead (text pattern log : List ℕ) (r : Answer) (log′ : List ℕ
 -- The log was read, and judged unless it was refused.
 pub data LogJudged (text pattern log result work : List ℕ) (r : Answer) (log′ result′ work′ : List ℕ) : Type 0 where
   log-refused :
-      LogRead text pattern log r log′ → 0 < r .number → result′ ≡ result → work′ ≡ work
+      LogRead text pattern log r log′ → (r .number ≡ 0 → ⊥) → result′ ≡ result → work′ ≡ work
       → LogJudged text pattern log result work r log′ result′ work′
   log-judged :
       (a : Answer) → LogRead text pattern log a log′ → a .number ≡ 0
@@ -38,7 +38,7 @@ pub data LogJudged (text pattern log result work : List ℕ) (r : Answer) (log�
 -- The pattern was read, and then the log unless the pattern was refused.
 pub data Run (patternText logText pattern log result work : List ℕ) (r : Answer) (pattern′ log′ result′ work′ : List ℕ) : Type 0 where
   pattern-refused :
-      PatternRead patternText pattern r pattern′ → 0 < r .number → log′ ≡ log → result′ ≡ result → work′ ≡ work
+      PatternRead patternText pattern r pattern′ → (r .number ≡ 0 → ⊥) → log′ ≡ log → result′ ≡ result → work′ ≡ work
       → Run patternText logText pattern log result work r pattern′ log′ result′ work′
   pattern-read :
       (a : Answer) → PatternRead patternText pattern a pattern′ → a .number ≡ 0

@@ -24,11 +24,11 @@ pub fn run(
     ensures { λ r. ⌜ Run (now (patterntext .exit)) (now (logtext .exit)) (now (pattern .entry)) (now (log .entry)) (now (result .entry)) (now (work .entry)) r (now (pattern .exit)) (now (log .exit)) (now (result .exit)) (now (work .exit)) ⌝ }
 {
     let first = read_pattern_file(patterntext, pattern);
-    if first.number > 0 {
-        print_refusal(first);
-        return first;
+    if first.number == 0 {
+        return judge_log_file(logtext, pattern, first.count, log, result, work);
     }
-    judge_log_file(logtext, pattern, first.count, log, result, work)
+    print_refusal(first);
+    first
 }
 
 fn judge_log_file(
@@ -42,11 +42,11 @@ fn judge_log_file(
     ensures { λ r. ⌜ LogJudged (now (text .exit)) (now (pattern .entry)) (now (log .entry)) (now (result .entry)) (now (work .entry)) r (now (log .exit)) (now (result .exit)) (now (work .exit)) ⌝ }
 {
     let read = read_log_file(text, pattern, log);
-    if read.number > 0 {
-        print_refusal(read);
-        return read;
+    if read.number == 0 {
+        return judge_and_print(pattern, beads, log, read.count, result, work);
     }
-    judge_and_print(pattern, beads, log, read.count, result, work)
+    print_refusal(read);
+    read
 }
 
 fn judge_and_print(
@@ -62,11 +62,11 @@ fn judge_and_print(
     ensures { λ _. ⌜ now (work .exit) ≡ workAfter (now (pattern .entry)) (now (log .entry)) (now (result .entry)) (now (work .entry)) ⌝ }
 {
     let judged = judging::judge(pattern, log, result, work);
-    if judged.number > 0 {
-        print_refusal(judged);
+    if judged.number == 0 {
+        print_rows(beads, steps, result);
         return judged;
     }
-    print_rows(beads, steps, result);
+    print_refusal(judged);
     judged
 }
 

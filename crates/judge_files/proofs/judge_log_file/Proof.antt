@@ -5,34 +5,34 @@ use Rattle.judge_files.proofs.judge_log_file.Statement.{statement}
 use Rattle.judge_files.proofs.judge_log_file.Tie as tie
 
 read-log-file-requires : tie.Need-read-log-file-requires
-read-log-file-requires c κs = search needs
+read-log-file-requires c κs = search (needs, kit)
 
-print-refusal-requires : tie.Need-print-refusal-requires
-print-refusal-requires c κs = search needs
+judge-and-print-requires : tie.Need-judge-and-print-requires
+judge-and-print-requires c κs = search (needs, kit)
 
 same-length : tie.Need-same-length
-same-length c = search needs
+same-length c = search (needs, kit)
 
 same-length-2 : tie.Need-same-length-2
-same-length-2 c = search needs
+same-length-2 c = search (needs, kit)
+
+same-length-3 : tie.Need-same-length-3
+same-length-3 c = search (needs, kit)
+
+same-length-4 : tie.Need-same-length-4
+same-length-4 c = search (needs, kit)
 
 returns : tie.Need-returns
 returns c = search (needs, kit)
 
-judge-and-print-requires : tie.Need-judge-and-print-requires
-judge-and-print-requires c κs = search needs
-
-same-length-3 : tie.Need-same-length-3
-same-length-3 c = search needs
-
-same-length-4 : tie.Need-same-length-4
-same-length-4 c = search needs
+print-refusal-requires : tie.Need-print-refusal-requires
+print-refusal-requires c κs = search (needs, kit)
 
 same-length-5 : tie.Need-same-length-5
-same-length-5 c = search needs
+same-length-5 c = search (needs, kit)
 
 same-length-6 : tie.Need-same-length-6
-same-length-6 c = search needs
+same-length-6 c = search (needs, kit)
 
 returns-2 : tie.Need-returns-2
 returns-2 c = search (needs, kit)
@@ -42,13 +42,13 @@ judge-log-file-spec =
     tie.close
     (tie.spec
     read-log-file-requires
-    print-refusal-requires
+    judge-and-print-requires
     same-length
     same-length-2
-    returns
-    judge-and-print-requires
     same-length-3
     same-length-4
+    returns
+    print-refusal-requires
     same-length-5
     same-length-6
     returns-2)
