@@ -12,7 +12,7 @@ use Rattle.text.specs.Fields.{firstPart, sameBytes}
 use Rattle.text.specs.Walk.{Judged, passed, refused}
 use Rattle.log_line.specs.Header.{vertexName, boardName, labelsName, predsName, placeOf, isHeader}
 use Rattle.log_line.specs.Format.{Known, judgeHeader}
-use Rattle.log_line.proofs.PartLaws.{partsFrom, parts-all, parts-none, parts-step, part-kit}
+use Rattle.text.proofs.PartLaws.{partsFrom, parts-all, parts-none, parts-step, part-kit}
 
 -- ---- the place of a name
 

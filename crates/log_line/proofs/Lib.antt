@@ -1,4 +1,3 @@
-pub mod PartLaws
 pub mod NumberLaws
 pub mod PredLaws
 pub mod ColumnLaws

@@ -1,7 +1,7 @@
 -- The field `preds`, part by part: all parts numbers, rising, stored.
 -- Assumes nothing.
 use mathlib.Core.Path.{_≡_, refl, sym, ap, ap₂, _∙_}
-use mathlib.Core.Bool.{Bool, true, false, not, _&&_}
+use mathlib.Core.Bool.{Bool, true, false, not, cond, _&&_, _||_}
 use mathlib.Core.List.{List, [], _∷_, _++_, map, append-nil, append-assoc}
 use Prim.Native.Nat.{ℕ, _+_, _-_, _≤_, _<_}
 use native.Mathlib.Omega.{arith}
@@ -9,7 +9,7 @@ use native.Mathlib.Numerals.{add-one}
 use borrow.Author.Tests.{le-leb, lt-leb, lt-ltb, le-ltb, eq-eqb, ne-eqb, ltb-true, ltb-false}
 use lib.Dec.{leb, ltb, eqb}
 use lib.ListN.{length, take, drop, set, length-map, length-append, length-set}
-use lib.Seq.{take-suc-set, length-take-le}
+use lib.Seq.{take-suc-set, length-take-le, set-out}
 use Rattle.text.specs.Split.{split}
 use Rattle.text.specs.Fields.{firstPart}
 use Rattle.text.specs.Numbers.{numberOf, isNumber, valueOf}
@@ -17,8 +17,10 @@ use Rattle.text.specs.declared.numbers.Number.{Number}
 use Rattle.text.specs.declared.numbers.Number.the-variants.{Value, Malformed}
 use Rattle.text.proofs.FieldLaws.{count-some}
 use Rattle.log_line.specs.Step.{isNone, predsOf, areNumbers, arePreds, risingBelow, mislinked}
-use Rattle.log_line.proofs.PartLaws.{partsFrom, parts-all, parts-none, parts-step, part-kit}
-use Rattle.log_line.proofs.NumberLaws.{not-number, is-number}
+use Rattle.log_line.specs.Scan.{Scanned, scanEnd}
+use Rattle.log_line.specs.declared.preds.PredScan.{PredScan}
+use Rattle.text.proofs.PartLaws.{partsFrom, parts-all, parts-none, parts-step, part-kit}
+use Rattle.log_line.proofs.NumberLaws.{not-number, is-number, value-some}
 
 -- ---- every part a number
 
@@ -48,8 +50,6 @@ module _ (l : List ℕ) (at : ℕ) (inv : areNumbers (split 44 l) ≡ areNumbers
     pub numbers-more : (v : ℕ) → r ≡ Value v → areNumbers (split 44 l) ≡ areNumbers (partsFrom 44 l (at + n + 1))
     numbers-more v p = here ∙ rw (← is-number _ r said v p)
 
-pub ruleset numbers-kit = (numbers-start, numbers-all, numbers-bad, numbers-more, part-kit)
-
 -- ---- rising, and below v
 
 -- The numbers are at least `low`, each larger than the one before it, and all below v.
@@ -66,6 +66,10 @@ head-below v u (w ∷ us) e = go (ltb u w) refl (risingBelow v (w ∷ us)) refl 
     go true p true q f rest = let h = rest q in let k = ltb-true u w p in omega arith
     go true p false q f rest = let z : _≡_ {A = ℕ} 0 1 = cc in absurd (omega arith)
     go false p t q f rest = let z : _≡_ {A = ℕ} 0 1 = cc in absurd (omega arith)
+
+and-true : (t : Bool) → (t && true) ≡ t
+and-true true = refl
+and-true false = refl
 
 and-false : (t : Bool) → (t && false) ≡ false
 and-false true = refl
@@ -147,8 +151,6 @@ module _ (v : ℕ) (l : List ℕ) (at low : ℕ) (inv : risingBelow v (map value
     pub rising-more : low ≤ u → u < v → risingBelow v (map valueOf (split 44 l)) ≡ risingFrom v (u + 1) (numbersFrom l (at + n + 1))
     rising-more h k = there ∙ rising-step v low u _ h k
 
-pub ruleset rising-kit = (rising-start, rising-all, rising-less, rising-over, rising-more, part-kit)
-
 -- ---- stored
 
 pub stored-start : (l preds : List ℕ) → map valueOf (split 44 l) ≡ take 0 preds ++ numbersFrom l 0
@@ -187,60 +189,152 @@ module _ (l : List ℕ) (at k : ℕ) (preds : List ℕ) (inv : map valueOf (spli
         ∙ ap (λ (ps : List ℕ). ps ++ numbersFrom l (at + n + 1))
         (sym (ap (λ (m : ℕ). take m (set preds k u)) (add-one k) ∙ take-suc-set preds k u (omega arith)))
 
-pub ruleset stored-kit = (stored-start, stored-all, stored-in, stored-low, stored-size, stored-more, part-kit)
+-- ---- one pass
 
--- ---- `-` or numbers
+-- The parts before the place are read: k numbers, the last below `low`, rising so far or not.
+pub record Scanning (v : ℕ) (l : List ℕ) (at k low : ℕ) (rising : Bool) (preds : List ℕ) : Type 0 where
+  pub numbered : areNumbers (split 44 l) ≡ areNumbers (partsFrom 44 l at)
+  pub rises : risingBelow v (map valueOf (split 44 l)) ≡ (rising && risingFrom v low (numbersFrom l at))
+  pub counts : length (split 44 l) ≡ k + length (partsFrom 44 l at)
+  pub kept : length (split 44 l) ≤ 8 → map valueOf (split 44 l) ≡ take k preds ++ numbersFrom l at
 
-module _ (f : List ℕ) (t : Bool) (given : t ≡ isNone f) where
-  module _ (e : t ≡ true) where
-    none : isNone f ≡ true
-    none = sym given ∙ e
+pub scan-start : (v : ℕ) (l preds : List ℕ) → Scanning v l 0 0 0 true preds
+scan-start v l preds = record {
+  numbered = numbers-start l;
+  rises = rising-start v l;
+  counts = let e = ap length (parts-all 44 l) in omega arith;
+  kept = λ few. stored-start l preds;
+}
 
-    pub none-formed : true ≡ arePreds f
-    none-formed = sym (rw none)
+module _ (v : ℕ) (l : List ℕ) (at k low : ℕ) (rising : Bool) (preds : List ℕ) (s : Scanning v l at k low rising preds) where
+  module _ (n : ℕ) (inside : at ≤ length l) (given : n ≡ length (firstPart 44 (take (length l - at) (drop at l))))
+      (r : Number) (said : r ≡ numberOf (take (at + n - at) (drop at l))) where
+    pub scan-bad : r ≡ Malformed → false ≡ areNumbers (split 44 l)
+    scan-bad p = numbers-bad l at (s .numbered) n inside given r said p
 
-    pub none-counted : 0 ≡ length (predsOf f)
-    none-counted = sym (rw none)
+    module _ (u : ℕ) (p : r ≡ Value u) (size : length preds ≡ 8) (new : List ℕ) (put : new ≡ set preds k u) where
+      value : u ≡ valueOf (take (at + n - at) (drop at l))
+      value = value-some _ r said u p
 
-    pub none-start : (v : ℕ) → v ≡ 0 → false ≡ mislinked v (predsOf f)
-    none-start v z = sym (rw (none, eq-eqb v 0 z))
+      more : length (split 44 l) ≡ k + 1 + length (partsFrom 44 l (at + n + 1))
+      more = let c = s .counts in let e = ap length (parts-step 44 l at n inside given) in omega arith
 
-    pub none-later : (v : ℕ) → (v ≡ 0 → ⊥) → true ≡ mislinked v (predsOf f)
-    none-later v n = sym (rw (none, ne-eqb v 0 n))
+      there-stored : length (split 44 l) ≤ 8 → map valueOf (split 44 l) ≡ take (k + 1) new ++ numbersFrom l (at + n + 1)
+      there-stored few =
+          let m = more in
+          rw put (stored-more l at k preds (s .kept few) size few (omega arith) n inside given u value)
 
-    pub none-stored : (preds : List ℕ) → predsOf f ≡ take (length (predsOf f)) preds
-    none-stored preds = rw none
+      rises-here : risingBelow v (map valueOf (split 44 l)) ≡ (rising && risingFrom v low (u ∷ numbersFrom l (at + n + 1)))
+      rises-here = s .rises ∙ ap (λ (us : List ℕ). rising && risingFrom v low us) (numbers-step l at n inside given ∙ ap (λ (x : ℕ). x ∷ numbersFrom l (at + n + 1)) (sym value))
 
-  module _ (e : t ≡ false) where
-    some : isNone f ≡ false
-    some = sym given ∙ e
+      pub scan-low : u < low → Scanning v l (at + n + 1) (k + 1) low false new
+      scan-low h = record {
+        numbered = numbers-more l at (s .numbered) n inside given r said u p;
+        rises = rises-here ∙ ap (λ (t : Bool). rising && t) (rising-low v low u _ h) ∙ and-false rising;
+        counts = more;
+        kept = there-stored;
+      }
 
-    are : predsOf f ≡ map valueOf (split 44 f)
-    are = rw some
+      pub scan-high : low ≤ u → v ≤ u → Scanning v l (at + n + 1) (k + 1) low false new
+      scan-high h j = record {
+        numbered = numbers-more l at (s .numbered) n inside given r said u p;
+        rises = rises-here ∙ ap (λ (t : Bool). rising && t) (rising-high v low u _ h j) ∙ and-false rising;
+        counts = more;
+        kept = there-stored;
+      }
 
-    many : length (predsOf f) ≡ length (split 44 f)
-    many = ap length are ∙ length-map (split 44 f) valueOf
+      pub scan-next : low ≤ u → u < v → Scanning v l (at + n + 1) (k + 1) (u + 1) rising new
+      scan-next h j = record {
+        numbered = numbers-more l at (s .numbered) n inside given r said u p;
+        rises = rises-here ∙ ap (λ (t : Bool). rising && t) (rising-step v low u _ h j);
+        counts = more;
+        kept = there-stored;
+      }
 
-    pub some-formed : (s : Bool) → s ≡ areNumbers (split 44 f) → s ≡ arePreds f
-    some-formed s q = q ∙ sym (rw some)
+  module _ (past : length l < at) where
+    all-numbers : areNumbers (split 44 l) ≡ true
+    all-numbers = s .numbered ∙ ap areNumbers (parts-none 44 l at past) ∙ numbers-nil
 
-    pub some-counted : (n : ℕ) → n ≡ length (split 44 f) → n ≡ length (predsOf f)
-    some-counted n q = q ∙ sym many
+    rising-is-so : rising ≡ risingBelow v (map valueOf (split 44 l))
+    rising-is-so = sym (s .rises ∙ ap (λ (us : List ℕ). rising && risingFrom v low us) (numbers-none l at past) ∙ ap (λ (t : Bool). rising && t) (rising-nil v low) ∙ and-true rising)
 
-    pub some-few : length (predsOf f) ≤ 8 → length (split 44 f) ≤ 8
-    some-few h = let m = many in omega arith
+    counted-is : k ≡ length (split 44 l)
+    counted-is = let c = s .counts in let e = ap length (parts-none 44 l at past) in omega arith
 
-    pub some-stored : (preds : List ℕ) → map valueOf (split 44 f) ≡ take (length (split 44 f)) preds → predsOf f ≡ take (length (predsOf f)) preds
-    some-stored preds q = are ∙ q ∙ ap (λ (n : ℕ). take n preds) (sym many)
+    pub scan-end : isNone l ≡ false → length preds ≡ 8 → (r : PredScan) → r ≡ scanEnd v rising k → Scanned v l r preds
+    scan-end some size r e = rw e (record {
+      size = size;
+      formed = sym (rw some all-numbers);
+      linked = λ z. linked-is;
+      counted = λ z. counted-is ∙ sym many;
+      stored = λ z few. are ∙ s .kept (let m = many in omega arith) ∙ ap (λ (us : List ℕ). take k preds ++ us) (numbers-none l at past) ∙ append-nil (take k preds) ∙ ap (λ (m : ℕ). take m preds) (counted-is ∙ sym many);
+    })
+      where
+        are : predsOf l ≡ map valueOf (split 44 l)
+        are = rw some
 
-    counted : eqb (length (predsOf f)) 0 ≡ false
-    counted = ne-eqb (length (predsOf f)) 0 (λ (z : length (predsOf f) ≡ 0). let m = many in let h = count-some 44 f in omega arith)
+        many : length (predsOf l) ≡ length (split 44 l)
+        many = ap length are ∙ length-map (split 44 l) valueOf
 
-    pub some-start : (v : ℕ) → v ≡ 0 → true ≡ mislinked v (predsOf f)
-    some-start v z = sym (rw (eq-eqb v 0 z, counted))
+        counted : eqb (length (predsOf l)) 0 ≡ false
+        counted = ne-eqb (length (predsOf l)) 0 (λ (z : length (predsOf l) ≡ 0). let m = many in let h = count-some 44 l in omega arith)
 
-    pub some-later : (v : ℕ) → (v ≡ 0 → ⊥) → (s : Bool) → s ≡ risingBelow v (map valueOf (split 44 f)) → not s ≡ mislinked v (predsOf f)
-    some-later v n s q = sym (rw (ne-eqb v 0 n, counted) (ap (λ (us : List ℕ). not (risingBelow v us)) are ∙ ap not (sym q)))
+        linked-is : cond (eqb v 0) true (not rising) ≡ mislinked v (predsOf l)
+        linked-is = go (eqb v 0) refl
+          where
+            go : (t : Bool) → eqb v 0 ≡ t → cond t true (not rising) ≡ cond t (not (eqb (length (predsOf l)) 0)) (eqb (length (predsOf l)) 0 || not (risingBelow v (predsOf l)))
+            go true q = sym (rw counted)
+            go false q = sym (rw counted (ap (λ (us : List ℕ). not (risingBelow v us)) are ∙ ap not (sym rising-is-so)))
 
-pub ruleset pred-kit =
-    (none-formed, none-counted, none-start, none-later, none-stored, some-formed, some-counted, some-few, some-stored, some-start, some-later)
+pub scan-malformed : (v : ℕ) (l preds : List ℕ) → isNone l ≡ false → length preds ≡ 8 → false ≡ areNumbers (split 44 l)
+    → Scanned v l (record { formed = false; mislinked = false; count = 0 }) preds
+scan-malformed v l preds some size e = record {
+  size = size;
+  formed = rw some e;
+  linked = λ z. let y : _≡_ {A = ℕ} 0 1 = cc in absurd (omega arith);
+  counted = λ z. let y : _≡_ {A = ℕ} 0 1 = cc in absurd (omega arith);
+  stored = λ z few. let y : _≡_ {A = ℕ} 0 1 = cc in absurd (omega arith);
+}
+
+pub ruleset scanning-kit = (scan-start, scan-bad, scan-low, scan-high, scan-next, scan-end, scan-malformed, part-kit)
+
+-- ---- `-`
+
+module _ (v : ℕ) (f preds : List ℕ) (size : length preds ≡ 8) (t : Bool) (given : t ≡ isNone f) where
+  pub none-scanned : t ≡ true → (w : Bool) → w ≡ not (eqb v 0) → Scanned v f (record { formed = true; mislinked = w; count = 0 }) preds
+  none-scanned e w q =
+      let none : isNone f ≡ true = sym given ∙ e in
+      record {
+        size = size;
+        formed = sym (rw none);
+        linked = λ z. q ∙ go (eqb v 0) none;
+        counted = λ z. sym (rw none);
+        stored = λ z few. rw none;
+      }
+    where
+      go : (s : Bool) → isNone f ≡ true → not s ≡ cond s (not (eqb (length (predsOf f)) 0)) (eqb (length (predsOf f)) 0 || not (risingBelow v (predsOf f)))
+      go true none = sym (rw none)
+      go false none = sym (rw none)
+
+  pub some-scanned : t ≡ false → isNone f ≡ false
+  some-scanned e = sym given ∙ e
+
+pub ruleset field-kit = (none-scanned, some-scanned)
+
+-- ---- a link that is kept
+
+pub kept-out : (l : List ℕ) (k u : ℕ) → length l ≡ 8 → 8 ≤ k → l ≡ set l k u
+kept-out l k u e h = sym (set-out l k u (omega arith))
+
+pub ruleset keep-kit = (kept-out)
+
+-- ---- the end
+
+module _ (v : ℕ) (rising : Bool) (n : ℕ) where
+  pub ends-start : v ≡ 0 → record { formed = true; mislinked = true; count = n } ≡ scanEnd v rising n
+  ends-start z = sym (rw (eq-eqb v 0 z))
+
+  pub ends-later : (v ≡ 0 → ⊥) → record { formed = true; mislinked = not rising; count = n } ≡ scanEnd v rising n
+  ends-later z = sym (rw (ne-eqb v 0 z))
+
+pub ruleset end-kit = (ends-start, ends-later)

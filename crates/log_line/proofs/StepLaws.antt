@@ -21,6 +21,8 @@ use Rattle.log_line.specs.declared.refusals.Refusal.the-variants.{Malfor
 use Rattle.log_line.specs.declared.header.ColumnOrder.{ColumnOrder}
 use Rattle.log_line.specs.declared.step.LineAnswer.{LineAnswer}
 use Rattle.log_line.specs.declared.step.LineAnswer.the-variants.{Values, Refused}
+use Rattle.log_line.specs.Scan.{Scanned, JudgedBy, LineBy}
+use Rattle.log_line.specs.declared.preds.PredScan.{PredScan}
 use Rattle.log_line.proofs.ColumnLaws.{field-none, field-ordered, field-inside, field-bytes}
 
 -- ---- the field `preds` by its index
@@ -30,13 +32,8 @@ unfolding sameBytes areNumbers split decimal
 empty-preds = refl
 
 module _ (l : List ℕ) (i : ℕ) (r : Field) (given : r ≡ fieldOf 32 l i) where
-  pub preds-missing : r ≡ Missing → false ≡ arePreds (getD (split 32 l) i [])
+  preds-missing : r ≡ Missing → false ≡ arePreds (getD (split 32 l) i [])
   preds-missing p = sym (ap arePreds (field-none l i r given p) ∙ empty-preds)
-
-  pub preds-there : (x y : ℕ) → r ≡ At x y → (t : Bool) → t ≡ arePreds (take (y - x) (drop x l)) → t ≡ arePreds (getD (split 32 l) i [])
-  preds-there x y p t q = q ∙ ap arePreds (field-bytes l i r given x y p)
-
-pub ruleset preds-kit = (preds-missing, preds-there, field-ordered, field-inside)
 
 -- ---- 21
 
@@ -158,38 +155,85 @@ module _ (count v before board set : ℕ) (f preds : List ℕ) (t : Bool) (linke
         judged = λ k q. rw (← linked, t-no, ← labelled, u-no, over-is k q, e, counted, ← s);
       }
 
-pub ruleset values-kit = (values-links, values-labels, values-over, values-few, values-fit, values-right)
+-- The same by a scan.
+module _ (count v before board set : ℕ) (scan : PredScan) where
+  pub by-links : scan .mislinked ≡ true → JudgedBy scan count v before board set (Refused Links)
+  by-links e = record { by = λ f preds s ok. values-links count v before board set f preds (scan .mislinked) (s .linked ok) (s .size) e }
+
+  module _ (t-no : scan .mislinked ≡ false) (u : Bool) (labelled : u ≡ mislabelled count v set) where
+    pub by-labels : u ≡ true → JudgedBy scan count v before board set (Refused Labels)
+    by-labels e = record { by = λ f preds s ok. values-labels count v before board set f preds (scan .mislinked) (s .linked ok) t-no u labelled (s .size) e }
+
+    module _ (u-no : u ≡ false) (w : Bool) (limit : w ≡ over (scan .count) v before) where
+      pub by-limit : w ≡ true → JudgedBy scan count v before board set (Refused Limit)
+      by-limit e = record {
+        by = λ f preds s ok.
+            values-over count v before board set f preds (scan .mislinked) (s .linked ok) t-no u labelled u-no (scan .count) (s .counted ok) w limit (s .size) e;
+      }
+
+      pub by-fit : w ≡ false → scan .count < 2 ^ 16
+      by-fit e = let h = in-limits (scan .count) v before (sym limit ∙ e) .few in omega arith
+
+      pub by-right : w ≡ false → JudgedBy scan count v before board set (Values (record { board = board; labels = set; count = scan .count }))
+      by-right e = record {
+        by = λ f preds s ok.
+            let few = values-few count v before board set f preds (scan .mislinked) (s .linked ok) t-no u labelled u-no (scan .count) (s .counted ok) w limit e in
+            values-right count v before board set f preds (scan .mislinked) (s .linked ok) t-no u labelled u-no (scan .count) (s .counted ok) w limit (s .size) e (s .stored ok few);
+      }
+
+pub ruleset values-kit = (by-links, by-labels, by-limit, by-fit, by-right)
 
 -- ---- the line
 
-module _ (count v before : ℕ) (o : ColumnOrder) (l preds : List ℕ) (t : Bool) (formed : t ≡ malformed (orderOf o) (split 32 l)) where
-  pub step-malformed : length preds ≡ 8 → t ≡ true → StepJudged count v before (orderOf o) (split 32 l) (Refused Malformed) preds
-  step-malformed z e = record { size = z; limits = tt; judged = λ xs q. sym (rw (← formed, e)) }
+module _ (count v before : ℕ) (o : ColumnOrder) (l : List ℕ) (scan : PredScan) (t : Bool) (formed : t ≡ malformed (orderOf o) (split 32 l)) where
+  pub line-malformed : t ≡ true → LineBy scan count v before (orderOf o) (split 32 l) (Refused Malformed)
+  line-malformed e = record { by = λ preds s. record { size = s .size; limits = tt; judged = λ xs q. sym (rw (← formed, e)) } }
 
   module _ (t-no : t ≡ false) (n : ℕ) (vertex : n ≡ valueOf (getD (split 32 l) (o .vertex) [])) where
     back : v + 2 - 2 ≡ v
     back = omega arith
 
-    pub step-number : length preds ≡ 8 → (n ≡ v → ⊥) → StepJudged count v before (orderOf o) (split 32 l) (Refused Number) preds
-    step-number z h = record { size = z; limits = tt; judged = λ xs q. sym (rw (← formed, t-no, ← vertex, back, ne-eqb n v h)) }
+    pub line-number : (n ≡ v → ⊥) → LineBy scan count v before (orderOf o) (split 32 l) (Refused Number)
+    line-number h = record { by = λ preds s. record { size = s .size; limits = tt; judged = λ xs q. sym (rw (← formed, t-no, ← vertex, back, ne-eqb n v h)) } }
 
-    module _ (right : n ≡ v) (r : Field) (given : r ≡ fieldOf 32 l (o .preds)) where
-      pub step-missing : r ≡ Missing → StepJudged count v before (orderOf o) (split 32 l) (Refused Malformed) preds
-      step-missing p =
-          let e = preds-needed o (split 32 l) (preds-missing l (o .preds) r given p) in
-          let z : _≡_ {A = ℕ} 0 1 = cc in
-          absurd (omega arith)
+    pub line-right : n ≡ v → scan .formed ≡ arePreds (getD (split 32 l) (o .preds) []) → (b s : ℕ)
+        → b ≡ valueOf (getD (split 32 l) (o .board) []) → s ≡ valueOf (getD (split 32 l) (o .labels) [])
+        → (a : LineAnswer) → JudgedBy scan count v before b s a → LineBy scan count v before (orderOf o) (split 32 l) a
+    line-right right ok b s board labels a j = record {
+      by = λ preds z.
+          let w = j .by (getD (split 32 l) (o .preds) []) preds z (ok ∙ well-formed) in
+          record {
+            size = w .size;
+            limits = w .limits;
+            judged = λ xs q.
+                w .judged (record { columns = orderOf o; steps = xs }) q
+                ∙ sym (rw (← formed, t-no, ← vertex, back, eq-eqb n v right, ← board, ← labels));
+          };
+    }
+      where
+        well-formed : arePreds (getD (split 32 l) (o .preds) []) ≡ true
+        well-formed = go (arePreds (getD (split 32 l) (o .preds) [])) refl
+          where
+            go : (p : Bool) → arePreds (getD (split 32 l) (o .preds) []) ≡ p → arePreds (getD (split 32 l) (o .preds) []) ≡ true
+            go true e = e
+            go false e =
+                let m = preds-needed o (split 32 l) (sym e) in
+                let z : _≡_ {A = ℕ} 0 1 = cc in
+                absurd (omega arith)
 
-      pub step-right : (x y b s : ℕ) → r ≡ At x y → b ≡ valueOf (getD (split 32 l) (o .board) []) → s ≡ valueOf (getD (split 32 l) (o .labels) [])
-          → (a : LineAnswer) (exit : List ℕ) → ValuesJudged count v before
-          (record { board = b; labels = s; preds = predsOf (take (y - x) (drop x l)) }) a exit
-          → StepJudged count v before (orderOf o) (split 32 l) a exit
-      step-right x y b s p board labels a exit j = record {
-        size = j .size;
-        limits = j .limits;
-        judged = λ xs q.
-            j .judged (record { columns = orderOf o; steps = xs }) q
-            ∙ sym (rw (← formed, t-no, ← vertex, back, eq-eqb n v right, ← board, ← labels, ← field-bytes l (o .preds) r given x y p));
-      }
+pub ruleset line-kit = (line-malformed, line-number, line-right)
 
-pub ruleset step-kit = (step-malformed, step-number, step-missing, step-right, field-ordered, field-inside)
+module _ (count v before : ℕ) (o : ColumnOrder) (l : List ℕ) (r : Field) (given : r ≡ fieldOf 32 l (o .preds)) where
+  pub step-missing : r ≡ Missing → (preds : List ℕ) → length preds ≡ 8 → StepJudged count v before (orderOf o) (split 32 l) (Refused Malformed) preds
+  step-missing p preds z =
+      let e = preds-needed o (split 32 l) (preds-missing l (o .preds) r given p) in
+      record { size = z; limits = tt; judged = λ xs q. sym (rw e) }
+
+  module _ (x y : ℕ) (p : r ≡ At x y) (scan : PredScan) (preds : List ℕ) (s : Scanned v (take (y - x) (drop x l)) scan preds) where
+    pub step-formed : scan .formed ≡ arePreds (getD (split 32 l) (o .preds) [])
+    step-formed = s .formed ∙ ap arePreds (field-bytes l (o .preds) r given x y p)
+
+    pub step-right : (a : LineAnswer) → LineBy scan count v before (orderOf o) (split 32 l) a → StepJudged count v before (orderOf o) (split 32 l) a preds
+    step-right a j = j .by preds (rw (← field-bytes l (o .preds) r given x y p) s)
+
+pub ruleset step-kit = (step-missing, step-formed, step-right, field-ordered, field-inside)

@@ -1,38 +1,42 @@
-// One field of a line as a number.
+// One field of a line, whose fields are marked, as a number.
 ghost use mathlib.Core.Path.{_≡_};
 ghost use mathlib.Core.List.{[]};
 ghost use lib.ListN.{getD};
 ghost use Rattle.text.specs.Split.{split};
+ghost use Rattle.text.specs.Fields.{Marked};
 ghost use Rattle.text.specs.Numbers.{numberOf, isNumber, valueOf};
 use text::fields::Field;
-use text::fields::find_field;
+use text::fields::marked_field;
 use text::numbers::Number;
 use text::numbers::read_number;
 
 // The number in the field with this index; a field that is not there is none.
-pub fn number_at(line: &[u8], index: usize) -> Number
+pub fn number_at(line: &[u8], marks: &[usize], index: usize) -> Number
+    requires { ⌜ Marked 32 (now line) (now marks) ⌝ }
     ensures { λ r. ⌜ r ≡ numberOf (getD (split 32 (now (line .entry))) index []) ⌝ }
 {
-    match find_field(line, 32, index) {
+    match marked_field(line, 32, marks, index) {
         Field::Missing => Number::Malformed,
         Field::At(x, y) => read_number(&line[x..y]),
     }
 }
 
-pub fn is_number_at(line: &[u8], index: usize) -> bool
+pub fn is_number_at(line: &[u8], marks: &[usize], index: usize) -> bool
+    requires { ⌜ Marked 32 (now line) (now marks) ⌝ }
     ensures { λ r. ⌜ r ≡ isNumber (getD (split 32 (now (line .entry))) index []) ⌝ }
 {
-    match number_at(line, index) {
+    match number_at(line, marks, index) {
         Number::Malformed => false,
         Number::Value(_) => true,
     }
 }
 
 // Its value, 0 where it is no number.
-pub fn value_at(line: &[u8], index: usize) -> u16
+pub fn value_at(line: &[u8], marks: &[usize], index: usize) -> u16
+    requires { ⌜ Marked 32 (now line) (now marks) ⌝ }
     ensures { λ r. ⌜ r ≡ valueOf (getD (split 32 (now (line .entry))) index []) ⌝ }
 {
-    match number_at(line, index) {
+    match number_at(line, marks, index) {
         Number::Malformed => 0,
         Number::Value(n) => n,
     }

@@ -6,19 +6,20 @@ ghost use lib.Dec.{ltb};
 ghost use lib.ListN.{length, getD};
 ghost use mathlib.Core.List.{[]};
 ghost use Rattle.text.specs.Split.{split};
-ghost use Rattle.log_line.specs.Step.{predsOf, arePreds, malformed, mislabelled};
-ghost use Rattle.log_line.specs.Answers.{orderOf, areNumbersAt, ValuesJudged, StepJudged};
+ghost use Rattle.text.specs.Fields.{Marked};
+ghost use Rattle.log_line.specs.Step.{arePreds, malformed, mislabelled};
+ghost use Rattle.log_line.specs.Scan.{JudgedBy, LineBy};
+ghost use Rattle.log_line.specs.Answers.{orderOf, areNumbersAt, StepJudged};
 use crate::columns::is_number_at;
 use crate::columns::value_at;
 use crate::header::ColumnOrder;
-use crate::preds::are_mislinked;
-use crate::preds::are_preds;
-use crate::preds::pred_count;
-use crate::preds::store_preds;
+use crate::preds::PredScan;
+use crate::preds::scan_preds;
 use crate::refusals::Refusal;
 use text::fields::Field;
-use text::fields::field_count;
-use text::fields::find_field;
+use text::fields::mark_fields;
+use text::fields::marked_count;
+use text::fields::marked_field;
 
 // What a line says of its step: board, label set, and how many links. The links stand beside it.
 pub struct StepValues {
@@ -32,23 +33,14 @@ pub enum LineAnswer {
     Refused(Refusal),
 }
 
-// Is the field with this index `-` or numbers joined by commas?
-pub fn are_preds_at(line: &[u8], index: usize) -> bool
-    ensures { λ r. ⌜ r ≡ arePreds (getD (split 32 (now (line .entry))) index []) ⌝ }
-{
-    match find_field(line, 32, index) {
-        Field::Missing => false,
-        Field::At(x, y) => are_preds(&line[x..y]),
-    }
-}
-
 // Are the other three fields numbers?
-pub fn are_numbers_at(line: &[u8], order: ColumnOrder) -> bool
+pub fn are_numbers_at(line: &[u8], marks: &[usize], order: ColumnOrder) -> bool
+    requires { ⌜ Marked 32 (now line) (now marks) ⌝ }
     ensures { λ r. ⌜ r ≡ areNumbersAt (orderOf order) (split 32 (now (line .entry))) ⌝ }
 {
-    if is_number_at(line, order.vertex) {
-        if is_number_at(line, order.board) {
-            return is_number_at(line, order.labels);
+    if is_number_at(line, marks, order.vertex) {
+        if is_number_at(line, marks, order.board) {
+            return is_number_at(line, marks, order.labels);
         }
         return false;
     }
@@ -56,17 +48,18 @@ pub fn are_numbers_at(line: &[u8], order: ColumnOrder) -> bool
 }
 
 // A wrong number of fields, a field that is no number, a board over 255, or `preds` of another form.
-pub fn is_malformed(line: &[u8], order: ColumnOrder) -> bool
+pub fn is_malformed(line: &[u8], marks: &[usize], order: ColumnOrder, formed: bool) -> bool
+    requires { ⌜ Marked 32 (now line) (now marks) × (formed ≡ arePreds (getD (split 32 (now line)) (order .preds) [])) ⌝ }
     ensures { λ r. ⌜ r ≡ malformed (orderOf order) (split 32 (now (line .entry))) ⌝ }
 {
-    if field_count(line, 32) != 4 {
+    if marked_count(line, 32, marks) != 4 {
         return true;
     }
-    if are_numbers_at(line, order) {
-        if value_at(line, order.board) > 255 {
+    if are_numbers_at(line, marks, order) {
+        if value_at(line, marks, order.board) > 255 {
             return true;
         }
-        return !are_preds_at(line, order.preds);
+        return !formed;
     }
     true
 }
@@ -98,38 +91,81 @@ pub fn is_over(links: usize, v: u16, before: u16) -> bool
     before as usize + links > 4096
 }
 
-// Step v with this board, label set and field `preds`, after steps with so many links: its values, or 24, 25, 26.
+// The values of step v, after steps with so many links, by the scan of its field `preds`, or 24, 25, 26.
 pub fn judge_values(
-    field: &[u8],
+    scan: PredScan,
     board: u16,
     set: u16,
     count: u16,
     v: u16,
     before: u16,
-    preds: &mut [u16; 8],
 ) -> LineAnswer
-    requires { ⌜ (count ≤ 16) × (length (now preds) ≡ 8) ⌝ }
-    ensures { λ r. ⌜ ValuesJudged count v before (record { board = board; labels = set; preds = predsOf (now (field .entry)) }) r (now (preds .exit)) ⌝ }
+    requires { ⌜ count ≤ 16 ⌝ }
+    ensures { λ r. ⌜ JudgedBy scan count v before board set r ⌝ }
 {
-    if are_mislinked(field, v) {
+    if scan.mislinked {
         return LineAnswer::Refused(Refusal::Links);
     }
     if is_mislabelled(count, v, set) {
         return LineAnswer::Refused(Refusal::Labels);
     }
-    let links = pred_count(field);
-    if is_over(links, v, before) {
+    if is_over(scan.count, v, before) {
         return LineAnswer::Refused(Refusal::Limit);
     }
-    store_preds(field, preds);
     LineAnswer::Values(StepValues {
         board,
         labels: set,
-        count: links as u16,
+        count: scan.count as u16,
     })
 }
 
-// The line of step v, after steps with so many links.
+// The line of step v by the scan of its field `preds`.
+fn read_scanned(
+    line: &[u8],
+    marks: &[usize],
+    order: ColumnOrder,
+    scan: PredScan,
+    count: u16,
+    v: u16,
+    before: u16,
+) -> LineAnswer
+    requires { ⌜ Marked 32 (now line) (now marks) × (scan .formed ≡ arePreds (getD (split 32 (now line)) (order .preds) [])) × (count ≤ 16) ⌝ }
+    ensures { λ r. ⌜ LineBy scan count v before (orderOf order) (split 32 (now (line .entry))) r ⌝ }
+{
+    if is_malformed(line, marks, order, scan.formed) {
+        return LineAnswer::Refused(Refusal::Malformed);
+    }
+    if value_at(line, marks, order.vertex) != v {
+        return LineAnswer::Refused(Refusal::Number);
+    }
+    let board = value_at(line, marks, order.board);
+    let set = value_at(line, marks, order.labels);
+    judge_values(scan, board, set, count, v, before)
+}
+
+// The line of step v, after steps with so many links, for a line whose fields are marked.
+fn read_marked(
+    line: &[u8],
+    marks: &[usize],
+    order: ColumnOrder,
+    count: u16,
+    v: u16,
+    before: u16,
+    preds: &mut [u16; 8],
+) -> LineAnswer
+    requires { ⌜ Marked 32 (now line) (now marks) × (count ≤ 16) × (length (now preds) ≡ 8) ⌝ }
+    ensures { λ r. ⌜ StepJudged count v before (orderOf order) (split 32 (now (line .entry))) r (now (preds .exit)) ⌝ }
+{
+    match marked_field(line, 32, marks, order.preds) {
+        Field::Missing => LineAnswer::Refused(Refusal::Malformed),
+        Field::At(x, y) => {
+            let scan = scan_preds(&line[x..y], v, preds);
+            read_scanned(line, marks, order, scan, count, v, before)
+        }
+    }
+}
+
+// The line of step v, after steps with so many links. The line is split once.
 pub fn read_step(
     line: &[u8],
     order: ColumnOrder,
@@ -141,16 +177,7 @@ pub fn read_step(
     requires { ⌜ (count ≤ 16) × (length (now preds) ≡ 8) ⌝ }
     ensures { λ r. ⌜ StepJudged count v before (orderOf order) (split 32 (now (line .entry))) r (now (preds .exit)) ⌝ }
 {
-    if is_malformed(line, order) {
-        return LineAnswer::Refused(Refusal::Malformed);
-    }
-    if value_at(line, order.vertex) != v {
-        return LineAnswer::Refused(Refusal::Number);
-    }
-    let board = value_at(line, order.board);
-    let set = value_at(line, order.labels);
-    match find_field(line, 32, order.preds) {
-        Field::Missing => LineAnswer::Refused(Refusal::Malformed),
-        Field::At(x, y) => judge_values(&line[x..y], board, set, count, v, before, preds),
-    }
+    let mut marks = [0usize; 8];
+    mark_fields(line, 32, &mut marks);
+    read_marked(line, &marks, order, count, v, before, preds)
 }

@@ -2,6 +2,7 @@
 ghost use mathlib.Core.Path.{_≡_};
 ghost use Prim.Native.Nat.{_+_};
 ghost use lib.ListN.{take, drop};
+ghost use Rattle.text.specs.Fields.{Marked};
 ghost use Rattle.pattern_line.specs.Line.{fieldsOf, fieldAt};
 ghost use Rattle.pattern_line.specs.Header.{columns, sameFields, nameByte, nameBytes, isName, areNames, among, distinct};
 ghost use Rattle.pattern_line.specs.Answers.{headerSaid, headerJudged};
@@ -58,39 +59,42 @@ pub fn is_name(field: &[u8]) -> bool
     name_bytes(field)
 }
 
-pub fn name_at(line: &[u8], index: usize) -> bool
+pub fn name_at(line: &[u8], marks: &[usize], index: usize) -> bool
+    requires { ⌜ Marked 32 (now line) (now marks) ⌝ }
     ensures { λ r. ⌜ r ≡ isName (fieldAt (now (line .entry)) index) ⌝ }
 {
-    match text::fields::find_field(line, 32, index) {
+    match text::fields::marked_field(line, 32, marks, index) {
         Field::Missing => false,
         Field::At(from, to) => is_name(&line[from..to]),
     }
 }
 
 // Are the first four fields `bead`, `rule`, `state` and `final`?
-pub fn has_columns(line: &[u8]) -> bool
+pub fn has_columns(line: &[u8], marks: &[usize]) -> bool
+    requires { ⌜ Marked 32 (now line) (now marks) ⌝ }
     ensures { λ r. ⌜ r ≡ sameFields (take 4 (fieldsOf (now (line .entry)))) columns ⌝ }
 {
-    if !word_at(line, 0, b"bead") {
+    if !word_at(line, marks, 0, b"bead") {
         return false;
     }
-    if !word_at(line, 1, b"rule") {
+    if !word_at(line, marks, 1, b"rule") {
         return false;
     }
-    if !word_at(line, 2, b"state") {
+    if !word_at(line, marks, 2, b"state") {
         return false;
     }
-    word_at(line, 3, b"final")
+    word_at(line, marks, 3, b"final")
 }
 
 // Are all fields after those four names?
-pub fn are_names(line: &[u8]) -> bool
+pub fn are_names(line: &[u8], marks: &[usize]) -> bool
+    requires { ⌜ Marked 32 (now line) (now marks) ⌝ }
     ensures { λ r. ⌜ r ≡ areNames (drop 4 (fieldsOf (now (line .entry)))) ⌝ }
 {
-    let count = text::fields::field_count(line, 32);
+    let count = text::fields::marked_count(line, 32, marks);
     let mut i = 4;
     while i < count {
-        if !name_at(line, i) {
+        if !name_at(line, marks, i) {
             return false;
         }
         i += 1;
@@ -99,16 +103,17 @@ pub fn are_names(line: &[u8]) -> bool
 }
 
 // Does the field stand among those after it?
-pub fn stands_again(line: &[u8], index: usize) -> bool
+pub fn stands_again(line: &[u8], marks: &[usize], index: usize) -> bool
+    requires { ⌜ Marked 32 (now line) (now marks) ⌝ }
     ensures { λ r. ⌜ r ≡ among (fieldAt (now (line .entry)) index) (drop (index + 1) (fieldsOf (now (line .entry)))) ⌝ }
 {
-    let count = text::fields::field_count(line, 32);
+    let count = text::fields::marked_count(line, 32, marks);
     if index >= count {
         return false;
     }
     let mut i = index + 1;
     while i < count {
-        if same_fields(line, index, i) {
+        if same_fields(line, marks, index, i) {
             return true;
         }
         i += 1;
@@ -117,13 +122,14 @@ pub fn stands_again(line: &[u8], index: usize) -> bool
 }
 
 // Are the fields after the first four distinct?
-pub fn are_distinct(line: &[u8]) -> bool
+pub fn are_distinct(line: &[u8], marks: &[usize]) -> bool
+    requires { ⌜ Marked 32 (now line) (now marks) ⌝ }
     ensures { λ r. ⌜ r ≡ distinct (drop 4 (fieldsOf (now (line .entry)))) ⌝ }
 {
-    let count = text::fields::field_count(line, 32);
+    let count = text::fields::marked_count(line, 32, marks);
     let mut i = 4;
     while i < count {
-        if stands_again(line, i) {
+        if stands_again(line, marks, i) {
             return false;
         }
         i += 1;
@@ -131,24 +137,35 @@ pub fn are_distinct(line: &[u8]) -> bool
     true
 }
 
-pub fn read_header(line: &[u8]) -> HeaderAnswer
+// The answer for a line whose fields are marked.
+fn judge_marked(line: &[u8], marks: &[usize]) -> HeaderAnswer
+    requires { ⌜ Marked 32 (now line) (now marks) ⌝ }
     ensures { λ r. ⌜ headerSaid r ≡ headerJudged (fieldsOf (now (line .entry))) ⌝ }
 {
-    if !has_columns(line) {
+    if !has_columns(line, marks) {
         return HeaderAnswer::Refused(Refusal::Header);
     }
-    let count = text::fields::field_count(line, 32);
+    let count = text::fields::marked_count(line, 32, marks);
     if count < 5 {
         return HeaderAnswer::Refused(Refusal::Header);
     }
     if count > 20 {
         return HeaderAnswer::Refused(Refusal::Header);
     }
-    if !are_names(line) {
+    if !are_names(line, marks) {
         return HeaderAnswer::Refused(Refusal::Header);
     }
-    if !are_distinct(line) {
+    if !are_distinct(line, marks) {
         return HeaderAnswer::Refused(Refusal::Header);
     }
     HeaderAnswer::Labels((count - 4) as u16)
+}
+
+// The line is split once.
+pub fn read_header(line: &[u8]) -> HeaderAnswer
+    ensures { λ r. ⌜ headerSaid r ≡ headerJudged (fieldsOf (now (line .entry))) ⌝ }
+{
+    let mut marks = [0usize; 24];
+    text::fields::mark_fields(line, 32, &mut marks);
+    judge_marked(line, &marks)
 }

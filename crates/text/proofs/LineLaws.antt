@@ -2,7 +2,7 @@
 -- Assumes nothing.
 use mathlib.Core.Path.{_≡_, refl, sym, ap, ap₂, _∙_, subst}
 use mathlib.Core.Bool.{Bool, true, false, cond, _&&_}
-use mathlib.Core.List.{List, [], _∷_}
+use mathlib.Core.List.{List, [], _∷_, _++_}
 use Prim.Native.Nat.{ℕ, suc, _+_, _-_, _≤_, _<_}
 use native.Mathlib.Omega.{arith}
 use native.Mathlib.Nat.{zero-add}
@@ -10,7 +10,7 @@ use native.Mathlib.Numerals.{add-one}
 use borrow.Author.Tests.{le-leb, lt-leb, lt-ltb, le-ltb, ltb-true, ltb-false}
 use lib.Dec.{leb, ltb}
 use lib.ListN.{length, getD, take, drop, drop-of-length-le}
-use lib.Seq.{length-take-le}
+use lib.Seq.{length-take-le, take-suc}
 use Rattle.text.specs.Split.{prepend, split}
 use Rattle.text.specs.Lines.{TextLine, lastLine, asLines, linesOf, printableByte, printable, answerOf, headLine, firstLine, lineOf, whole, endOf, ended}
 use Rattle.text.specs.declared.lines.End.{End}
@@ -198,3 +198,36 @@ module _ (most : ℕ) (l : List ℕ) (r : End) (d : r ≡ ended most l) where
         sym (rw (found .0, found .1, y) refl)
 
 pub ruleset line-kit = (line-long, line-unended, end-inside, end-counts, line-whole, line-unprintable)
+
+-- ---- a line without a fault, in one pass
+
+printable-snoc : (xs : List ℕ) (x : ℕ) → printable xs ≡ true → 32 ≤ x → x ≤ 126 → printable (xs ++ (x ∷ [])) ≡ true
+unfolding printable
+printable-snoc [] x e h k = printable-step x [] h k ∙ printable-nil
+printable-snoc (y ∷ ys) x e h k = go (printableByte y) (printable ys) refl e (λ z. printable-snoc ys x z h k)
+  where
+    go : (s t : Bool) → printable ys ≡ t → (s && t) ≡ true → (printable ys ≡ true → printable (ys ++ (x ∷ [])) ≡ true) → (s && printable (ys ++ (x ∷ []))) ≡ true
+    go true true p q rest = rest p
+    go true false p q rest = let z : _≡_ {A = ℕ} 0 1 = cc in absurd (omega arith)
+    go false t p q rest = let z : _≡_ {A = ℕ} 0 1 = cc in absurd (omega arith)
+
+pub clean-none : (l : List ℕ) → printable (take 0 l) ≡ true
+clean-none l = printable-nil
+
+module _ (most : ℕ) (l : List ℕ) (i : ℕ) (low : i ≤ most) (inv : ended most l ≡ endFrom most i (drop i l)) (clean : printable (take i l) ≡ true) where
+  pub once-whole : i < length l → getD l i 0 ≡ 10 → Whole i ≡ lineOf most l
+  once-whole h e = line-whole most l (At i) (end-found most l i low inv h e) i refl true (sym clean) refl
+
+  pub once-long : i < length l → 32 ≤ getD l i 0 → most ≤ i → Broken Long ≡ lineOf most l
+  once-long h k m = line-long most l Over (end-over most l i low inv h (λ z. omega arith) (omega arith)) refl
+
+  pub once-more : i < length l → 32 ≤ getD l i 0 → ended most l ≡ endFrom most (i + 1) (drop (i + 1) l)
+  once-more h k = end-more most l i low inv h (λ z. omega arith)
+
+  pub once-clean : i < length l → 32 ≤ getD l i 0 → getD l i 0 ≤ 126 → printable (take (i + 1) l) ≡ true
+  once-clean h k m = ap printable (ap (λ (j : ℕ). take j l) (add-one i) ∙ take-suc l i 0 h) ∙ printable-snoc (take i l) (getD l i 0) clean k m
+
+  pub once-unended : length l ≤ i → Broken Unended ≡ lineOf most l
+  once-unended h = line-unended most l Missing (end-missing most l i low inv h) refl
+
+pub ruleset once-kit = (end-none, clean-none, once-whole, once-long, once-more, once-clean, once-unended)

@@ -143,7 +143,7 @@ split-joined b p (q ∷ ps) f = split-front b p (joined b (q ∷ ps)) (f .0) ∙
 
 -- ---- where a part stands in the whole
 
-start-none : (ps : List (List ℕ)) → partStart ps 0 ≡ 0
+pub start-none : (ps : List (List ℕ)) → partStart ps 0 ≡ 0
 unfolding partStart
 start-none ps = refl
 

@@ -1,5 +1,6 @@
 -- The fields of a line (document 01: every space ends a field; `preds` splits again at commas).
-use Prim.Native.Nat.{ℕ, zero, suc, _+_}
+use Prim.Native.Nat.{ℕ, zero, suc, _+_, _≤_, _<_}
+use mathlib.Core.Path.{_≡_}
 use mathlib.Core.Bool.{Bool, true, false, cond, _&&_}
 use mathlib.Core.List.{List, [], _∷_}
 use lib.Dec.{eqb, ltb}
@@ -30,3 +31,10 @@ sameBytes [] [] = true
 sameBytes [] (y ∷ ys) = false
 sameBytes (x ∷ xs) [] = false
 sameBytes (x ∷ xs) (y ∷ ys) = eqb x y && sameBytes xs ys
+
+-- A line's fields are marked in a list: first how many there are, then where each begins, and last the place after the end of a last
+-- separator, if the line had one more. As many as there is room for.
+pub record Marked (b : ℕ) (l : List ℕ) (marks : List ℕ) : Type 0 where
+  pub some : 0 < length marks
+  pub count : getD marks 0 0 ≡ length (split b l)
+  pub starts : (i : ℕ) → i ≤ length (split b l) → i + 1 < length marks → getD marks (i + 1) 0 ≡ partStart (split b l) i

@@ -59,8 +59,8 @@ pub fn printable(bytes: &[u8]) -> bool
     true
 }
 
-// The first line of a text: whole if it has at most `most` bytes, a newline, and only bytes 32 to 126.
-pub fn read_line(text: &[u8], most: usize) -> Line
+// The answer for a first line that has some fault: how it ends, then its bytes.
+fn read_faulty(text: &[u8], most: usize) -> Line
     ensures { λ r. ⌜ r ≡ lineOf most (now (text .entry)) ⌝ }
 {
     match find_end(text, most) {
@@ -74,4 +74,29 @@ pub fn read_line(text: &[u8], most: usize) -> Line
             }
         }
     }
+}
+
+// The first line of a text: whole if it has at most `most` bytes, a newline, and only bytes 32 to 126. A line without a fault is looked
+// at once.
+pub fn read_line(text: &[u8], most: usize) -> Line
+    ensures { λ r. ⌜ r ≡ lineOf most (now (text .entry)) ⌝ }
+{
+    let mut i = 0;
+    while i < text.len() {
+        let b = text[i];
+        if b < 32 {
+            if b == 10 {
+                return Line::Whole(i);
+            }
+            return read_faulty(text, most);
+        }
+        if b > 126 {
+            return read_faulty(text, most);
+        }
+        if i >= most {
+            return Line::Broken(LineFault::Long);
+        }
+        i += 1;
+    }
+    Line::Broken(LineFault::Unended)
 }

@@ -4,8 +4,8 @@ use borrow.Author.Needs.{needs}
 use Rattle.log_line.proofs.columns.number_at.Statement.{statement}
 use Rattle.log_line.proofs.columns.number_at.Tie as tie
 
-find-field-requires : tie.Need-find-field-requires
-find-field-requires c κs = search (needs, column-kit)
+marked-field-requires : tie.Need-marked-field-requires
+marked-field-requires c κs = search (needs, column-kit)
 
 enum-told : tie.Need-enum-told
 enum-told c = search (needs, column-kit)
@@ -35,7 +35,7 @@ pub number-at-spec : {M : Type 1} → statement M
 number-at-spec =
     tie.close
     (tie.spec
-    find-field-requires
+    marked-field-requires
     enum-told
     enum-known-x
     sub-read-number

@@ -4,8 +4,8 @@ use borrow.Author.Needs.{needs}
 use Rattle.log_line.proofs.step.is_malformed.Statement.{statement}
 use Rattle.log_line.proofs.step.is_malformed.Tie as tie
 
-field-count-requires : tie.Need-field-count-requires
-field-count-requires c κs = search (needs, formed-kit)
+marked-count-requires : tie.Need-marked-count-requires
+marked-count-requires c κs = search (needs, formed-kit)
 
 returns : tie.Need-returns
 returns c = search (needs, formed-kit)
@@ -19,9 +19,6 @@ value-at-requires c κs = search (needs, formed-kit)
 returns-2 : tie.Need-returns-2
 returns-2 c = search (needs, formed-kit)
 
-are-preds-at-requires : tie.Need-are-preds-at-requires
-are-preds-at-requires c κs = search (needs, formed-kit)
-
 returns-3 : tie.Need-returns-3
 returns-3 c = search (needs, formed-kit)
 
@@ -32,11 +29,10 @@ pub is-malformed-spec : {M : Type 1} → statement M
 is-malformed-spec =
     tie.close
     (tie.spec
-    field-count-requires
+    marked-count-requires
     returns
     are-numbers-at-requires
     value-at-requires
     returns-2
-    are-preds-at-requires
     returns-3
     returns-4)

@@ -1,11 +1,8 @@
--- 24, 25 and 26, the smallest first.
-use Rattle.log_line.proofs.StepLaws.{values-kit}
+-- 24, 25 and 26, in this order, by a scan.
 use borrow.Author.Needs.{needs}
+use Rattle.log_line.proofs.StepLaws.{values-kit}
 use Rattle.log_line.proofs.step.judge_values.Statement.{statement}
 use Rattle.log_line.proofs.step.judge_values.Tie as tie
-
-are-mislinked-requires : tie.Need-are-mislinked-requires
-are-mislinked-requires c κs = search (needs, values-kit)
 
 returns : tie.Need-returns
 returns c = search (needs, values-kit)
@@ -16,20 +13,14 @@ is-mislabelled-requires c κs = search (needs, values-kit)
 returns-2 : tie.Need-returns-2
 returns-2 c = search (needs, values-kit)
 
-pred-count-requires : tie.Need-pred-count-requires
-pred-count-requires c κs = search (needs, values-kit)
-
 is-over-requires : tie.Need-is-over-requires
 is-over-requires c κs = search (needs, values-kit)
 
 returns-3 : tie.Need-returns-3
 returns-3 c = search (needs, values-kit)
 
-store-preds-requires : tie.Need-store-preds-requires
-store-preds-requires c κs = search (needs, values-kit)
-
-cast-t17 : tie.Need-cast-t17
-cast-t17 c = search (needs, values-kit)
+cast-t13 : tie.Need-cast-t13
+cast-t13 c = search (needs, values-kit)
 
 returns-4 : tie.Need-returns-4
 returns-4 c = search (needs, values-kit)
@@ -38,13 +29,10 @@ pub judge-values-spec : {M : Type 1} → statement M
 judge-values-spec =
     tie.close
     (tie.spec
-    are-mislinked-requires
     returns
     is-mislabelled-requires
     returns-2
-    pred-count-requires
     is-over-requires
     returns-3
-    store-preds-requires
-    cast-t17
+    cast-t13
     returns-4)

@@ -10,13 +10,13 @@ use Rattle.pattern_line.proofs.header.are_distinct.Statement.{statement
 use Rattle.pattern_line.proofs.header.are_distinct.Tie as tie
 
 abbrev Inv-loop : tie.InvT-loop
-Inv-loop line count i₀ i = (4 ≤ i) × (distinct (drop 4 (fieldsOf line)) ≡ distinct (drop i (fieldsOf line)))
+Inv-loop line marks count i₀ i = (4 ≤ i) × (distinct (drop 4 (fieldsOf line)) ≡ distinct (drop i (fieldsOf line)))
 
 abbrev μ-loop : tie.MeasureT-loop
-μ-loop line count i₀ i = count - i
+μ-loop line marks count i₀ i = count - i
 
-field-count-requires : tie.Need-field-count-requires Inv-loop μ-loop
-field-count-requires c κs = search (needs, distinct-kit)
+marked-count-requires : tie.Need-marked-count-requires Inv-loop μ-loop
+marked-count-requires c κs = search (needs, distinct-kit)
 
 loop-holds : tie.Need-loop-holds Inv-loop μ-loop
 loop-holds c = search (needs, distinct-kit)
@@ -45,7 +45,7 @@ are-distinct-spec =
     (tie.spec
     Inv-loop
     μ-loop
-    field-count-requires
+    marked-count-requires
     loop-holds
     stands-again-requires
     returns

@@ -10,13 +10,13 @@ use Rattle.pattern_line.proofs.header.stands_again.Statement.{statement
 use Rattle.pattern_line.proofs.header.stands_again.Tie as tie
 
 abbrev Inv-loop : tie.InvT-loop
-Inv-loop line index count i₀ i = among (fieldAt line index) (drop (index + 1) (fieldsOf line)) ≡ among (fieldAt line index) (drop i (fieldsOf line))
+Inv-loop line marks index count i₀ i = among (fieldAt line index) (drop (index + 1) (fieldsOf line)) ≡ among (fieldAt line index) (drop i (fieldsOf line))
 
 abbrev μ-loop : tie.MeasureT-loop
-μ-loop line index count i₀ i = count - i
+μ-loop line marks index count i₀ i = count - i
 
-field-count-requires : tie.Need-field-count-requires Inv-loop μ-loop
-field-count-requires c κs = search (needs, among-kit)
+marked-count-requires : tie.Need-marked-count-requires Inv-loop μ-loop
+marked-count-requires c κs = search (needs, among-kit)
 
 returns : tie.Need-returns Inv-loop μ-loop
 returns c = search (needs, among-kit)
@@ -51,7 +51,7 @@ stands-again-spec =
     (tie.spec
     Inv-loop
     μ-loop
-    field-count-requires
+    marked-count-requires
     returns
     add-i
     loop-holds

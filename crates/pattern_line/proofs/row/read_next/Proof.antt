@@ -10,10 +10,10 @@ use Rattle.pattern_line.proofs.row.read_next.Statement.{statement}
 use Rattle.pattern_line.proofs.row.read_next.Tie as tie
 
 abbrev Inv-loop : tie.InvT-loop
-Inv-loop line next₀ a₀ next a = (a ≤ 16) × (length next₀ ≡ 16) × (length next ≡ 16) × (next ≡ part (setAt line) a next₀)
+Inv-loop line marks next₀ a₀ next a = (a ≤ 16) × (length next₀ ≡ 16) × (length next ≡ 16) × (next ≡ part (setAt line) a next₀)
 
 abbrev μ-loop : tie.MeasureT-loop
-μ-loop line next₀ a₀ next a = 16 - a
+μ-loop line marks next₀ a₀ next a = 16 - a
 
 loop-holds : tie.Need-loop-holds Inv-loop μ-loop
 loop-holds c = search (needs, sets-kit)

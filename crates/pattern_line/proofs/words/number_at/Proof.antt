@@ -5,8 +5,8 @@ use borrow.Author.Needs.{needs}
 use Rattle.pattern_line.proofs.words.number_at.Statement.{statement}
 use Rattle.pattern_line.proofs.words.number_at.Tie as tie
 
-find-field-requires : tie.Need-find-field-requires
-find-field-requires c κs = search (needs, kit)
+marked-field-requires : tie.Need-marked-field-requires
+marked-field-requires c κs = search (needs, kit)
 
 enum-told : tie.Need-enum-told
 enum-told c = search (needs, kit)
@@ -36,7 +36,7 @@ pub number-at-spec : {M : Type 1} → statement M
 number-at-spec =
     tie.close
     (tie.spec
-    find-field-requires
+    marked-field-requires
     enum-told
     enum-known-from
     sub-read-number

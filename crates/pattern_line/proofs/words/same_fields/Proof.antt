@@ -5,8 +5,8 @@ use borrow.Author.Needs.{needs}
 use Rattle.pattern_line.proofs.words.same_fields.Statement.{statement}
 use Rattle.pattern_line.proofs.words.same_fields.Tie as tie
 
-find-field-requires : tie.Need-find-field-requires
-find-field-requires c κs = search (needs, kit)
+marked-field-requires : tie.Need-marked-field-requires
+marked-field-requires c κs = search (needs, kit)
 
 enum-told : tie.Need-enum-told
 enum-told c = search (needs, kit)
@@ -42,7 +42,7 @@ pub same-fields-spec : {M : Type 1} → statement M
 same-fields-spec =
     tie.close
     (tie.spec
-    find-field-requires
+    marked-field-requires
     enum-told
     slice-aggregate-word-at
     word-at-requires

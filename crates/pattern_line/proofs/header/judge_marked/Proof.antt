@@ -2,8 +2,8 @@
 use borrow.Author.Needs.{needs}
 use Rattle.pattern_line.proofs.HeaderLaws.{header-kit}
 use borrow.Author.Needs.{needs}
-use Rattle.pattern_line.proofs.header.read_header.Statement.{statement}
-use Rattle.pattern_line.proofs.header.read_header.Tie as tie
+use Rattle.pattern_line.proofs.header.judge_marked.Statement.{statement}
+use Rattle.pattern_line.proofs.header.judge_marked.Tie as tie
 
 has-columns-requires : tie.Need-has-columns-requires
 has-columns-requires c κs = search (needs, header-kit)
@@ -11,8 +11,8 @@ has-columns-requires c κs = search (needs, header-kit)
 returns : tie.Need-returns
 returns c = search (needs, header-kit)
 
-field-count-requires : tie.Need-field-count-requires
-field-count-requires c κs = search (needs, header-kit)
+marked-count-requires : tie.Need-marked-count-requires
+marked-count-requires c κs = search (needs, header-kit)
 
 returns-2 : tie.Need-returns-2
 returns-2 c = search (needs, header-kit)
@@ -32,28 +32,28 @@ are-distinct-requires c κs = search (needs, header-kit)
 returns-5 : tie.Need-returns-5
 returns-5 c = search (needs, header-kit)
 
-sub-t10 : tie.Need-sub-t10
-sub-t10 c = search (needs, header-kit)
+sub-t11 : tie.Need-sub-t11
+sub-t11 c = search (needs, header-kit)
 
-cast-t11 : tie.Need-cast-t11
-cast-t11 c = search (needs, header-kit)
+cast-t12 : tie.Need-cast-t12
+cast-t12 c = search (needs, header-kit)
 
 returns-6 : tie.Need-returns-6
 returns-6 c = search (needs, header-kit)
 
-pub read-header-spec : {M : Type 1} → statement M
-read-header-spec =
+pub judge-marked-spec : {M : Type 1} → statement M
+judge-marked-spec =
     tie.close
     (tie.spec
     has-columns-requires
     returns
-    field-count-requires
+    marked-count-requires
     returns-2
     returns-3
     are-names-requires
     returns-4
     are-distinct-requires
     returns-5
-    sub-t10
-    cast-t11
+    sub-t11
+    cast-t12
     returns-6)

@@ -2,14 +2,14 @@
 use borrow.Author.Needs.{needs}
 use Rattle.pattern_line.proofs.RowLaws.{row-kit}
 use borrow.Author.Needs.{needs}
-use Rattle.pattern_line.proofs.row.read_row.Statement.{statement}
-use Rattle.pattern_line.proofs.row.read_row.Tie as tie
+use Rattle.pattern_line.proofs.row.read_marked.Statement.{statement}
+use Rattle.pattern_line.proofs.row.read_marked.Tie as tie
 
 read-next-requires : tie.Need-read-next-requires
 read-next-requires c κs = search (needs, row-kit)
 
-field-count-requires : tie.Need-field-count-requires
-field-count-requires c κs = search (needs, row-kit)
+marked-count-requires : tie.Need-marked-count-requires
+marked-count-requires c κs = search (needs, row-kit)
 
 add-if1 : tie.Need-add-if1
 add-if1 c = search (needs, row-kit)
@@ -86,12 +86,12 @@ same-length-6 c = search (needs, row-kit)
 returns-6 : tie.Need-returns-6
 returns-6 c = search (needs, row-kit)
 
-pub read-row-spec : {M : Type 1} → statement M
-read-row-spec =
+pub read-marked-spec : {M : Type 1} → statement M
+read-marked-spec =
     tie.close
     (tie.spec
     read-next-requires
-    field-count-requires
+    marked-count-requires
     add-if1
     same-length
     returns
