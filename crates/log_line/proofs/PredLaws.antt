@@ -16,7 +16,7 @@ use Rattle.text.specs.Numbers.{numberOf, isNumber, valueOf}
 use Rattle.text.specs.declared.numbers.Number.{Number}
 use Rattle.text.specs.declared.numbers.Number.the-variants.{Value, Malformed}
 use Rattle.text.proofs.FieldLaws.{count-some}
-use Rattle.log_line.specs.Step.{isNone, predsOf, areNumbers, arePreds, risingBelow, mislinked}
+use Rattle.log_line.specs.Step.{isNone, predsOf, areNumbers, risingBelow, mislinked}
 use Rattle.log_line.specs.Scan.{Scanned, scanEnd}
 use Rattle.log_line.specs.declared.preds.PredScan.{PredScan}
 use Rattle.text.proofs.PartLaws.{partsFrom, parts-all, parts-none, parts-step, part-kit}
@@ -36,9 +36,6 @@ pub numbers-start : (l : List ℕ) → areNumbers (split 44 l) ≡ areNumbers (p
 numbers-start l = ap areNumbers (parts-all 44 l)
 
 module _ (l : List ℕ) (at : ℕ) (inv : areNumbers (split 44 l) ≡ areNumbers (partsFrom 44 l at)) where
-  pub numbers-all : length l < at → true ≡ areNumbers (split 44 l)
-  numbers-all h = sym (inv ∙ ap areNumbers (parts-none 44 l at h) ∙ numbers-nil)
-
   module _ (n : ℕ) (inside : at ≤ length l) (given : n ≡ length (firstPart 44 (take (length l - at) (drop at l))))
       (r : Number) (said : r ≡ numberOf (take (at + n - at) (drop at l))) where
     here : areNumbers (split 44 l) ≡ (isNumber (take (at + n - at) (drop at l)) && areNumbers (partsFrom 44 l (at + n + 1)))
@@ -133,24 +130,6 @@ module _ (l : List ℕ) (at : ℕ) where
 pub rising-start : (v : ℕ) (l : List ℕ) → risingBelow v (map valueOf (split 44 l)) ≡ risingFrom v 0 (numbersFrom l 0)
 rising-start v l = rising-is v (numbers l) ∙ ap (λ (ps : List (List ℕ)). risingFrom v 0 (map valueOf ps)) (parts-all 44 l)
 
-module _ (v : ℕ) (l : List ℕ) (at low : ℕ) (inv : risingBelow v (map valueOf (split 44 l)) ≡ risingFrom v low (numbersFrom l at)) where
-  pub rising-all : length l < at → true ≡ risingBelow v (map valueOf (split 44 l))
-  rising-all h = sym (inv ∙ ap (risingFrom v low) (numbers-none l at h) ∙ rising-nil v low)
-
-  module _ (n : ℕ) (inside : at ≤ length l) (given : n ≡ length (firstPart 44 (take (length l - at) (drop at l))))
-      (u : ℕ) (said : u ≡ valueOf (take (at + n - at) (drop at l))) where
-    there : risingBelow v (map valueOf (split 44 l)) ≡ risingFrom v low (u ∷ numbersFrom l (at + n + 1))
-    there = inv ∙ ap (risingFrom v low) (numbers-step l at n inside given ∙ ap (λ (x : ℕ). x ∷ numbersFrom l (at + n + 1)) (sym said))
-
-    pub rising-less : u < low → false ≡ risingBelow v (map valueOf (split 44 l))
-    rising-less h = sym (there ∙ rising-low v low u _ h)
-
-    pub rising-over : low ≤ u → v ≤ u → false ≡ risingBelow v (map valueOf (split 44 l))
-    rising-over h k = sym (there ∙ rising-high v low u _ h k)
-
-    pub rising-more : low ≤ u → u < v → risingBelow v (map valueOf (split 44 l)) ≡ risingFrom v (u + 1) (numbersFrom l (at + n + 1))
-    rising-more h k = there ∙ rising-step v low u _ h k
-
 -- ---- stored
 
 pub stored-start : (l preds : List ℕ) → map valueOf (split 44 l) ≡ take 0 preds ++ numbersFrom l 0
@@ -163,22 +142,9 @@ module _ (l : List ℕ) (at k : ℕ) (preds : List ℕ) (inv : map valueOf (spli
       sym (length-map (split 44 l) valueOf) ∙ ap length inv ∙ length-append (take k preds) (numbersFrom l at)
       ∙ ap (λ (m : ℕ). m + length (numbersFrom l at)) (length-take-le k preds (omega arith))
 
-  pub stored-all : length l < at → map valueOf (split 44 l) ≡ take (length (split 44 l)) preds
-  stored-all h =
-      let c = count in
-      let e = ap length (numbers-none l at h) in
-      let d : k ≡ length (split 44 l) = omega arith in
-      inv ∙ ap₂ (λ (m : ℕ) (ps : List ℕ). take m preds ++ ps) d (numbers-none l at h) ∙ append-nil _
-
   module _ (n : ℕ) (inside : at ≤ length l) (given : n ≡ length (firstPart 44 (take (length l - at) (drop at l)))) where
     pub stored-in : k < 8
     stored-in = let c = count in let e = ap length (numbers-step l at n inside given) in omega arith
-
-    pub stored-low : k + 1 ≤ 8
-    stored-low = let h = stored-in in omega arith
-
-    pub stored-size : (u : ℕ) → length (set preds k u) ≡ 8
-    stored-size u = length-set preds k u ∙ size
 
     pub stored-more : (u : ℕ) → u ≡ valueOf (take (at + n - at) (drop at l))
         → map valueOf (split 44 l) ≡ take (k + 1) (set preds k u) ++ numbersFrom l (at + n + 1)

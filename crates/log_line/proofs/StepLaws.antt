@@ -1,7 +1,7 @@
 -- A line below the header, test by test, as document 01 orders them.
 -- Assumes nothing.
 use mathlib.Core.Path.{_≡_, refl, sym, ap, _∙_}
-use mathlib.Core.Bool.{Bool, true, false, not, _||_}
+use mathlib.Core.Bool.{Bool, true, false, not, _&&_, _||_}
 use mathlib.Core.List.{List, []}
 use Prim.Native.Nat.{ℕ, _+_, _-_, _^_, _≤_, _<_}
 use native.Mathlib.Omega.{arith}
@@ -11,17 +11,21 @@ use lib.ListN.{length, getD, take, drop}
 use Rattle.sets.specs.Sets.{within}
 use Rattle.text.specs.Split.{split}
 use Rattle.text.specs.Fields.{fieldOf, sameBytes}
-use Rattle.text.specs.Numbers.{decimal, isNumber, valueOf}
+use Rattle.text.specs.Numbers.{decimal, numberOf, isNumber, valueOf}
 use Rattle.text.specs.declared.fields.Field.{Field}
 use Rattle.text.specs.declared.fields.Field.the-variants.{At, Missing}
 use Rattle.log_line.specs.Step.{Step, predsOf, areNumbers, arePreds, malformed, mislinked, mislabelled, linkCount, overLimit}
 use Rattle.log_line.specs.Format.{Known}
-use Rattle.log_line.specs.Answers.{orderOf, areNumbersAt, InLimits, ValuesJudged, StepJudged}
+use Rattle.log_line.specs.Answers.{orderOf, InLimits, ValuesJudged, StepJudged}
 use Rattle.log_line.specs.declared.refusals.Refusal.the-variants.{Malformed, Number, Links, Labels, Limit}
 use Rattle.log_line.specs.declared.header.ColumnOrder.{ColumnOrder}
 use Rattle.log_line.specs.declared.step.LineAnswer.{LineAnswer}
 use Rattle.log_line.specs.declared.step.LineAnswer.the-variants.{Values, Refused}
-use Rattle.log_line.specs.Scan.{Scanned, JudgedBy, LineBy}
+use Rattle.log_line.specs.Header.{Columns}
+use Rattle.log_line.specs.Scan.{Scanned, JudgedBy, NumbersBy, LineBy}
+use Rattle.text.specs.declared.numbers.Number.{Number as ReadNumber}
+use Rattle.text.specs.declared.numbers.Number.the-variants.{Value, Malformed as Malformed-number}
+use Rattle.log_line.proofs.NumberLaws.{not-number, is-number, value-some}
 use Rattle.log_line.specs.declared.preds.PredScan.{PredScan}
 use Rattle.log_line.proofs.ColumnLaws.{field-none, field-ordered, field-inside, field-bytes}
 
@@ -37,36 +41,6 @@ module _ (l : List ℕ) (i : ℕ) (r : Field) (given : r ≡ fieldOf 32 l i) whe
 
 -- ---- 21
 
-module _ (o : ColumnOrder) (l : List ℕ) (t : Bool) (vertex : t ≡ isNumber (getD (split 32 l) (o .vertex) [])) where
-  pub numbers-vertex : t ≡ false → false ≡ areNumbersAt (orderOf o) (split 32 l)
-  numbers-vertex e = sym (rw (← vertex, e))
-
-  module _ (t-yes : t ≡ true) (u : Bool) (board : u ≡ isNumber (getD (split 32 l) (o .board) [])) where
-    pub numbers-board : u ≡ false → false ≡ areNumbersAt (orderOf o) (split 32 l)
-    numbers-board e = sym (rw (← vertex, t-yes, ← board, e))
-
-    pub numbers-labels : u ≡ true → (w : Bool) → w ≡ isNumber (getD (split 32 l) (o .labels) []) → w ≡ areNumbersAt (orderOf o) (split 32 l)
-    numbers-labels e w labels = labels ∙ sym (rw (← vertex, t-yes, ← board, e))
-
-pub ruleset numbers-kit = (numbers-vertex, numbers-board, numbers-labels)
-
-module _ (o : ColumnOrder) (l : List ℕ) (n : ℕ) (counted : n ≡ length (split 32 l)) where
-  pub formed-count : (n ≡ 4 → ⊥) → true ≡ malformed (orderOf o) (split 32 l)
-  formed-count h = sym (rw (← counted, ne-eqb n 4 h))
-
-  module _ (four : n ≡ 4) (t : Bool) (numbers : t ≡ areNumbersAt (orderOf o) (split 32 l)) where
-    pub formed-numbers : t ≡ false → true ≡ malformed (orderOf o) (split 32 l)
-    formed-numbers e = sym (rw (← counted, eq-eqb n 4 four, ← numbers, e))
-
-    module _ (t-yes : t ≡ true) (b : ℕ) (board : b ≡ valueOf (getD (split 32 l) (o .board) [])) where
-      pub formed-board : 255 < b → true ≡ malformed (orderOf o) (split 32 l)
-      formed-board h = sym (rw (← counted, eq-eqb n 4 four, ← numbers, t-yes, ← board, lt-ltb 255 b h))
-
-      pub formed-preds : b ≤ 255 → (p : Bool) → p ≡ arePreds (getD (split 32 l) (o .preds) []) → not p ≡ malformed (orderOf o) (split 32 l)
-      formed-preds h p q = sym (rw (← counted, eq-eqb n 4 four, ← numbers, t-yes, ← board, le-ltb 255 b h, ← q))
-
-pub ruleset formed-kit = (formed-count, formed-numbers, formed-board, formed-preds)
-
 or-last : (a b c : Bool) → (a || (b || (c || true))) ≡ true
 or-last true b c = refl
 or-last false true c = refl
@@ -75,7 +49,10 @@ or-last false false false = refl
 
 -- A line without the field `preds` is malformed.
 preds-needed : (o : ColumnOrder) (fs : List (List ℕ)) → false ≡ arePreds (getD fs (o .preds) []) → malformed (orderOf o) fs ≡ true
-preds-needed o fs e = rw (← e) (or-last (not (eqb (length fs) 4)) (not (areNumbersAt (orderOf o) fs)) (ltb 255 (valueOf (getD fs (o .board) []))))
+preds-needed o fs e =
+    rw (← e) (or-last (not (eqb (length fs) 4))
+    (not (isNumber (getD fs (o .vertex) []) && (isNumber (getD fs (o .board) []) && isNumber (getD fs (o .labels) []))))
+    (ltb 255 (valueOf (getD fs (o .board) []))))
 
 -- ---- 25 and 26, as tests on numbers
 
@@ -143,9 +120,6 @@ module _ (count v before board set : ℕ) (f preds : List ℕ) (t : Bool) (linke
       pub values-few : w ≡ false → length (predsOf f) ≤ 8
       values-few e = let h = in-limits n v before (sym limit ∙ e) .few in omega arith
 
-      pub values-fit : w ≡ false → n < 2 ^ 16
-      values-fit e = let h = in-limits n v before (sym limit ∙ e) .few in omega arith
-
       pub values-right : length preds ≡ 8 → w ≡ false → predsOf f ≡ take (length (predsOf f)) preds
           → ValuesJudged count v before (record { board = board; labels = set; preds = predsOf f })
           (Values (record { board = board; labels = set; count = n })) preds
@@ -183,45 +157,94 @@ module _ (count v before board set : ℕ) (scan : PredScan) where
 
 pub ruleset values-kit = (by-links, by-labels, by-limit, by-fit, by-right)
 
--- ---- the line
+-- ---- the line, by its numbers
 
-module _ (count v before : ℕ) (o : ColumnOrder) (l : List ℕ) (scan : PredScan) (t : Bool) (formed : t ≡ malformed (orderOf o) (split 32 l)) where
-  pub line-malformed : t ≡ true → LineBy scan count v before (orderOf o) (split 32 l) (Refused Malformed)
-  line-malformed e = record { by = λ preds s. record { size = s .size; limits = tt; judged = λ xs q. sym (rw (← formed, e)) } }
+-- A malformed line is refused with 21, whatever its scan.
+refused-21 : (count v before : ℕ) (c : Columns) (fs : List (List ℕ)) (preds : List ℕ) → length preds ≡ 8 → malformed c fs ≡ true
+    → StepJudged count v before c fs (Refused Malformed) preds
+refused-21 count v before c fs preds z e = record { size = z; limits = tt; judged = λ xs q. sym (rw e) }
 
-  module _ (t-no : t ≡ false) (n : ℕ) (vertex : n ≡ valueOf (getD (split 32 l) (o .vertex) [])) where
+numbers-in : (c : Columns) (fs : List (List ℕ)) (x b s : ℕ) → length fs ≡ 4 → Value x ≡ numberOf (getD fs (c .vertex) [])
+    → Value b ≡ numberOf (getD fs (c .board) []) → Value s ≡ numberOf (getD fs (c .labels) [])
+    → malformed c fs ≡ (ltb 255 b || not (arePreds (getD fs (c .preds) [])))
+numbers-in c fs x b s four px pb ps =
+    rw (four, ← is-number _ (Value x) px x refl, ← is-number _ (Value b) pb b refl, ← is-number _ (Value s) ps s refl, ← value-some _ (Value b) pb b refl)
+
+module _ (scan : PredScan) (x b s count v before : ℕ) where
+  pub by-board : 255 < b → NumbersBy scan x b s count v before (Refused Malformed)
+  by-board h = record {
+    by = λ c fs preds four px pb ps z. refused-21 count v before c fs preds (z .size) (numbers-in c fs x b s four px pb ps ∙ rw (lt-ltb 255 b h));
+  }
+
+  module _ (low : b ≤ 255) where
+    pub by-form : scan .formed ≡ false → NumbersBy scan x b s count v before (Refused Malformed)
+    by-form e = record {
+      by = λ c fs preds four px pb ps z.
+          refused-21 count v before c fs preds (z .size) (numbers-in c fs x b s four px pb ps ∙ rw (le-ltb 255 b low, ← z .formed, e));
+    }
+
     back : v + 2 - 2 ≡ v
     back = omega arith
 
-    pub line-number : (n ≡ v → ⊥) → LineBy scan count v before (orderOf o) (split 32 l) (Refused Number)
-    line-number h = record { by = λ preds s. record { size = s .size; limits = tt; judged = λ xs q. sym (rw (← formed, t-no, ← vertex, back, ne-eqb n v h)) } }
+    module _ (ok : scan .formed ≡ true) where
+      well : (c : Columns) (fs : List (List ℕ)) (preds : List ℕ) → length fs ≡ 4 → Value x ≡ numberOf (getD fs (c .vertex) [])
+          → Value b ≡ numberOf (getD fs (c .board) []) → Value s ≡ numberOf (getD fs (c .labels) [])
+          → Scanned v (getD fs (c .preds) []) scan preds → malformed c fs ≡ false
+      well c fs preds four px pb ps z = numbers-in c fs x b s four px pb ps ∙ rw (le-ltb 255 b low, ← z .formed, ok)
 
-    pub line-right : n ≡ v → scan .formed ≡ arePreds (getD (split 32 l) (o .preds) []) → (b s : ℕ)
-        → b ≡ valueOf (getD (split 32 l) (o .board) []) → s ≡ valueOf (getD (split 32 l) (o .labels) [])
-        → (a : LineAnswer) → JudgedBy scan count v before b s a → LineBy scan count v before (orderOf o) (split 32 l) a
-    line-right right ok b s board labels a j = record {
-      by = λ preds z.
-          let w = j .by (getD (split 32 l) (o .preds) []) preds z (ok ∙ well-formed) in
-          record {
-            size = w .size;
-            limits = w .limits;
-            judged = λ xs q.
-                w .judged (record { columns = orderOf o; steps = xs }) q
-                ∙ sym (rw (← formed, t-no, ← vertex, back, eq-eqb n v right, ← board, ← labels));
-          };
-    }
-      where
-        well-formed : arePreds (getD (split 32 l) (o .preds) []) ≡ true
-        well-formed = go (arePreds (getD (split 32 l) (o .preds) [])) refl
-          where
-            go : (p : Bool) → arePreds (getD (split 32 l) (o .preds) []) ≡ p → arePreds (getD (split 32 l) (o .preds) []) ≡ true
-            go true e = e
-            go false e =
-                let m = preds-needed o (split 32 l) (sym e) in
-                let z : _≡_ {A = ℕ} 0 1 = cc in
-                absurd (omega arith)
+      pub by-number : (x ≡ v → ⊥) → NumbersBy scan x b s count v before (Refused Number)
+      by-number h = record {
+        by = λ c fs preds four px pb ps z. record {
+          size = z .size;
+          limits = tt;
+          judged = λ xs q. sym (rw (well c fs preds four px pb ps z, ← value-some _ (Value x) px x refl, back, ne-eqb x v h));
+        };
+      }
 
-pub ruleset line-kit = (line-malformed, line-number, line-right)
+      pub by-values : x ≡ v → (a : LineAnswer) → JudgedBy scan count v before b s a → NumbersBy scan x b s count v before a
+      by-values right a j = record {
+        by = λ c fs preds four px pb ps z.
+            let w = j .by (getD fs (c .preds) []) preds z ok in
+            record {
+              size = w .size;
+              limits = w .limits;
+              judged = λ xs q.
+                  w .judged (record { columns = c; steps = xs }) q
+                  ∙ sym (rw (well c fs preds four px pb ps z, ← value-some _ (Value x) px x refl, back, eq-eqb x v right, ← value-some _ (Value b) pb b refl, ← value-some _ (Value s) ps s refl));
+            };
+      }
+
+pub ruleset by-kit = (by-board, by-form, by-number, by-values)
+
+-- ---- the line, by its fields
+
+module _ (count v before : ℕ) (o : ColumnOrder) (l : List ℕ) (scan : PredScan) where
+  by-21 : malformed (orderOf o) (split 32 l) ≡ true → LineBy scan count v before (orderOf o) (split 32 l) (Refused Malformed)
+  by-21 e = record { by = λ preds z. refused-21 count v before (orderOf o) (split 32 l) preds (z .size) e }
+
+  module _ (n : ℕ) (counted : n ≡ length (split 32 l)) where
+    pub line-count : (n ≡ 4 → ⊥) → LineBy scan count v before (orderOf o) (split 32 l) (Refused Malformed)
+    line-count h = by-21 (rw (← counted, ne-eqb n 4 h))
+
+    module _ (four : n ≡ 4) (r : ReadNumber) (vertex : r ≡ numberOf (getD (split 32 l) (o .vertex) [])) where
+      pub line-vertex : r ≡ Malformed-number → LineBy scan count v before (orderOf o) (split 32 l) (Refused Malformed)
+      line-vertex p = by-21 (rw (← counted, four, ← not-number _ r vertex p))
+
+      module _ (x : ℕ) (rx : r ≡ Value x) (q : ReadNumber) (board : q ≡ numberOf (getD (split 32 l) (o .board) [])) where
+        pub line-board : q ≡ Malformed-number → LineBy scan count v before (orderOf o) (split 32 l) (Refused Malformed)
+        line-board p = by-21 (rw (← counted, four, ← is-number _ r vertex x rx, ← not-number _ q board p))
+
+        module _ (b : ℕ) (qb : q ≡ Value b) (w : ReadNumber) (labels : w ≡ numberOf (getD (split 32 l) (o .labels) [])) where
+          pub line-labels : w ≡ Malformed-number → LineBy scan count v before (orderOf o) (split 32 l) (Refused Malformed)
+          line-labels p = by-21 (rw (← counted, four, ← is-number _ r vertex x rx, ← is-number _ q board b qb, ← not-number _ w labels p))
+
+          pub line-right : (s : ℕ) → w ≡ Value s → (a : LineAnswer) → NumbersBy scan x b s count v before a
+              → LineBy scan count v before (orderOf o) (split 32 l) a
+          line-right s ws a j = record {
+            by = λ preds z. j .by (orderOf o) (split 32 l) preds (sym counted ∙ four) (sym rx ∙ vertex) (sym qb ∙ board) (sym ws ∙ labels) z;
+          }
+
+pub ruleset line-kit = (line-count, line-vertex, line-board, line-labels, line-right)
 
 module _ (count v before : ℕ) (o : ColumnOrder) (l : List ℕ) (r : Field) (given : r ≡ fieldOf 32 l (o .preds)) where
   pub step-missing : r ≡ Missing → (preds : List ℕ) → length preds ≡ 8 → StepJudged count v before (orderOf o) (split 32 l) (Refused Malformed) preds

@@ -1,11 +1,10 @@
 -- The answers of the reader's parts: for each case the refusal's number in document 01 and the values, and what they make of a line.
 use Prim.Native.Nat.{ℕ, _+_, _≤_, _<_}
 use mathlib.Core.Path.{_≡_}
-use mathlib.Core.Bool.{Bool, cond, _&&_}
+use mathlib.Core.Bool.{cond}
 use mathlib.Core.List.{List, [], _∷_, _++_}
 use lib.Dec.{eqb}
 use lib.ListN.{length, getD, take}
-use Rattle.text.specs.Numbers.{isNumber}
 use Rattle.text.specs.Walk.{Judged, refused, passed}
 use Rattle.log_line.specs.Limits.{mostSteps, mostLinks, mostPreds}
 use Rattle.log_line.specs.Header.{Columns}
@@ -54,10 +53,6 @@ columnsFrom vs = record { vertex = getD vs 0 0; board = getD vs 1 0; labels = ge
 
 abbrev pub orderOf : ColumnOrder → Columns
 orderOf c = record { vertex = c .vertex; board = c .board; labels = c .labels; preds = c .preds }
-
--- The fields of vertex, board and labels are numbers.
-abbrev pub areNumbersAt : Columns → List (List ℕ) → Bool
-areNumbersAt c fs = isNumber (getD fs (c .vertex) []) && (isNumber (getD fs (c .board) []) && isNumber (getD fs (c .labels) []))
 
 abbrev pub stepWith : StepValues → List ℕ → Step
 stepWith w links = record { board = w .board; labels = w .labels; preds = take (w .count) links }

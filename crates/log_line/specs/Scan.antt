@@ -5,6 +5,8 @@ use mathlib.Core.Bool.{Bool, true, not, cond}
 use mathlib.Core.List.{List, []}
 use lib.Dec.{eqb}
 use lib.ListN.{length, take, getD}
+use Rattle.text.specs.Numbers.{numberOf}
+use Rattle.text.specs.declared.numbers.Number.the-variants.{Value}
 use Rattle.log_line.specs.Limits.{mostPreds}
 use Rattle.log_line.specs.Header.{Columns}
 use Rattle.log_line.specs.Step.{predsOf, arePreds, mislinked}
@@ -29,6 +31,12 @@ scanEnd v rising n = record { formed = true; mislinked = cond (eqb v 0) true (no
 pub record JudgedBy (scan : PredScan) (count v before board set : ℕ) (r : LineAnswer) : Type 0 where
   pub by : (f preds : List ℕ) → Scanned v f scan preds → scan .formed ≡ true
       → ValuesJudged count v before (record { board = board; labels = set; preds = predsOf f }) r preds
+
+-- The answer for a line of four fields, three of them these numbers, whatever field gave this scan.
+pub record NumbersBy (scan : PredScan) (vertex board set count v before : ℕ) (r : LineAnswer) : Type 0 where
+  pub by : (c : Columns) (fs : List (List ℕ)) (preds : List ℕ) → length fs ≡ 4
+      → Value vertex ≡ numberOf (getD fs (c .vertex) []) → Value board ≡ numberOf (getD fs (c .board) []) → Value set ≡ numberOf (getD fs (c .labels) [])
+      → Scanned v (getD fs (c .preds) []) scan preds → StepJudged count v before c fs r preds
 
 -- The answer for a line whose field `preds` gave this scan.
 pub record LineBy (scan : PredScan) (count v before : ℕ) (c : Columns) (fs : List (List ℕ)) (r : LineAnswer) : Type 0 where

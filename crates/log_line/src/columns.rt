@@ -4,7 +4,7 @@ ghost use mathlib.Core.List.{[]};
 ghost use lib.ListN.{getD};
 ghost use Rattle.text.specs.Split.{split};
 ghost use Rattle.text.specs.Fields.{Marked};
-ghost use Rattle.text.specs.Numbers.{numberOf, isNumber, valueOf};
+ghost use Rattle.text.specs.Numbers.{numberOf};
 use text::fields::Field;
 use text::fields::marked_field;
 use text::numbers::Number;
@@ -18,26 +18,5 @@ pub fn number_at(line: &[u8], marks: &[usize], index: usize) -> Number
     match marked_field(line, 32, marks, index) {
         Field::Missing => Number::Malformed,
         Field::At(x, y) => read_number(&line[x..y]),
-    }
-}
-
-pub fn is_number_at(line: &[u8], marks: &[usize], index: usize) -> bool
-    requires { ⌜ Marked 32 (now line) (now marks) ⌝ }
-    ensures { λ r. ⌜ r ≡ isNumber (getD (split 32 (now (line .entry))) index []) ⌝ }
-{
-    match number_at(line, marks, index) {
-        Number::Malformed => false,
-        Number::Value(_) => true,
-    }
-}
-
-// Its value, 0 where it is no number.
-pub fn value_at(line: &[u8], marks: &[usize], index: usize) -> u16
-    requires { ⌜ Marked 32 (now line) (now marks) ⌝ }
-    ensures { λ r. ⌜ r ≡ valueOf (getD (split 32 (now (line .entry))) index []) ⌝ }
-{
-    match number_at(line, marks, index) {
-        Number::Malformed => 0,
-        Number::Value(n) => n,
     }
 }

@@ -7,11 +7,10 @@ ghost use lib.ListN.{length, getD};
 ghost use mathlib.Core.List.{[]};
 ghost use Rattle.text.specs.Split.{split};
 ghost use Rattle.text.specs.Fields.{Marked};
-ghost use Rattle.log_line.specs.Step.{arePreds, malformed, mislabelled};
-ghost use Rattle.log_line.specs.Scan.{JudgedBy, LineBy};
-ghost use Rattle.log_line.specs.Answers.{orderOf, areNumbersAt, StepJudged};
-use crate::columns::is_number_at;
-use crate::columns::value_at;
+ghost use Rattle.log_line.specs.Step.{arePreds, mislabelled};
+ghost use Rattle.log_line.specs.Scan.{JudgedBy, NumbersBy, LineBy};
+ghost use Rattle.log_line.specs.Answers.{orderOf, StepJudged};
+use crate::columns::number_at;
 use crate::header::ColumnOrder;
 use crate::preds::PredScan;
 use crate::preds::scan_preds;
@@ -20,6 +19,7 @@ use text::fields::Field;
 use text::fields::mark_fields;
 use text::fields::marked_count;
 use text::fields::marked_field;
+use text::numbers::Number;
 
 // What a line says of its step: board, label set, and how many links. The links stand beside it.
 pub struct StepValues {
@@ -31,37 +31,6 @@ pub struct StepValues {
 pub enum LineAnswer {
     Values(StepValues),
     Refused(Refusal),
-}
-
-// Are the other three fields numbers?
-pub fn are_numbers_at(line: &[u8], marks: &[usize], order: ColumnOrder) -> bool
-    requires { ⌜ Marked 32 (now line) (now marks) ⌝ }
-    ensures { λ r. ⌜ r ≡ areNumbersAt (orderOf order) (split 32 (now (line .entry))) ⌝ }
-{
-    if is_number_at(line, marks, order.vertex) {
-        if is_number_at(line, marks, order.board) {
-            return is_number_at(line, marks, order.labels);
-        }
-        return false;
-    }
-    false
-}
-
-// A wrong number of fields, a field that is no number, a board over 255, or `preds` of another form.
-pub fn is_malformed(line: &[u8], marks: &[usize], order: ColumnOrder, formed: bool) -> bool
-    requires { ⌜ Marked 32 (now line) (now marks) × (formed ≡ arePreds (getD (split 32 (now line)) (order .preds) [])) ⌝ }
-    ensures { λ r. ⌜ r ≡ malformed (orderOf order) (split 32 (now (line .entry))) ⌝ }
-{
-    if marked_count(line, 32, marks) != 4 {
-        return true;
-    }
-    if are_numbers_at(line, marks, order) {
-        if value_at(line, marks, order.board) > 255 {
-            return true;
-        }
-        return !formed;
-    }
-    true
 }
 
 // Labels on step 0, or a label past the label count.
@@ -119,7 +88,33 @@ pub fn judge_values(
     })
 }
 
-// The line of step v by the scan of its field `preds`.
+// A line of four fields for step v, by its three numbers and the scan of its field `preds`: 21 for a board over 255 or for `preds` of
+// another form, 23, then the values.
+fn judge_numbers(
+    scan: PredScan,
+    vertex: u16,
+    board: u16,
+    set: u16,
+    count: u16,
+    v: u16,
+    before: u16,
+) -> LineAnswer
+    requires { ⌜ count ≤ 16 ⌝ }
+    ensures { λ r. ⌜ NumbersBy scan vertex board set count v before r ⌝ }
+{
+    if board > 255 {
+        return LineAnswer::Refused(Refusal::Malformed);
+    }
+    if scan.formed {
+        if vertex == v {
+            return judge_values(scan, board, set, count, v, before);
+        }
+        return LineAnswer::Refused(Refusal::Number);
+    }
+    LineAnswer::Refused(Refusal::Malformed)
+}
+
+// The line of step v by the scan of its field `preds`. A wrong number of fields, or a field that is no number, is 21.
 fn read_scanned(
     line: &[u8],
     marks: &[usize],
@@ -132,15 +127,19 @@ fn read_scanned(
     requires { ⌜ Marked 32 (now line) (now marks) × (scan .formed ≡ arePreds (getD (split 32 (now line)) (order .preds) [])) × (count ≤ 16) ⌝ }
     ensures { λ r. ⌜ LineBy scan count v before (orderOf order) (split 32 (now (line .entry))) r ⌝ }
 {
-    if is_malformed(line, marks, order, scan.formed) {
+    if marked_count(line, 32, marks) != 4 {
         return LineAnswer::Refused(Refusal::Malformed);
     }
-    if value_at(line, marks, order.vertex) != v {
-        return LineAnswer::Refused(Refusal::Number);
+    match number_at(line, marks, order.vertex) {
+        Number::Malformed => LineAnswer::Refused(Refusal::Malformed),
+        Number::Value(vertex) => match number_at(line, marks, order.board) {
+            Number::Malformed => LineAnswer::Refused(Refusal::Malformed),
+            Number::Value(board) => match number_at(line, marks, order.labels) {
+                Number::Malformed => LineAnswer::Refused(Refusal::Malformed),
+                Number::Value(set) => judge_numbers(scan, vertex, board, set, count, v, before),
+            },
+        },
     }
-    let board = value_at(line, marks, order.board);
-    let set = value_at(line, marks, order.labels);
-    judge_values(scan, board, set, count, v, before)
 }
 
 // The line of step v, after steps with so many links, for a line whose fields are marked.
