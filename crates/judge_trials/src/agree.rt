@@ -1,69 +1,39 @@
 // The judge against the other one: every number of the result, the count, and the work buffer.
-use crate::counts::add;
-use crate::counts::add_if;
-use crate::counts::differing;
-use crate::counts::print;
-use crate::counts::row_place;
 use answer::Answer;
 use places::has;
+use tallies::add;
+use tallies::add_if;
+use tallies::differing;
+use tallies::row_place;
 use trial::Random;
 use trial::get;
 
+// Where each count stands. Those of a number k, of beads or of a prefix, stand k places on, from 1; those of a kind of links from 0.
 const PAIRS: usize = 0;
 
-const REFUSED: usize = 1;
+const BEADS: usize = 0;
 
-const ROWS: usize = 2;
+const LINKS: usize = 9;
 
-const DIFFERING: usize = 3;
+const ROWS: usize = 15;
 
-const WRONG_COUNT: usize = 4;
+const PREFIXES: usize = 15;
 
-const NOT_CLEARED: usize = 5;
+const WHOLE: usize = 23;
 
-const FRONT: usize = 6;
+const FRONT: usize = 32;
 
-const FRONT_CHOSEN: usize = 7;
+const REFUSED: usize = 33;
 
-const BITS: u16 = 8;
+const DIFFERING: usize = 34;
 
-const WHOLE: u16 = 16;
+const WRONG_COUNT: usize = 35;
 
-const BEADS: u16 = 24;
+const NOT_CLEARED: usize = 36;
 
-pub fn run(pairs: u64) {
-    let mut counts = [0u64; 32];
-    try_pairs(pairs, &mut counts);
-    print(b"patterns and logs judged by both", &counts, PAIRS);
-    crate::counts::print_eight(b"  patterns with beads ", &counts, BEADS);
-    print_rows(&counts);
-    print_faults(&counts);
-}
+const FRONT_CHOSEN: usize = 37;
 
-fn print_rows(counts: &[u64]) {
-    print(b"rows", counts, ROWS);
-    crate::counts::print_eight(b"  rows with the prefix of length ", counts, BITS);
-    crate::counts::print_eight(b"  whole necklaces of length ", counts, WHOLE);
-    print(b"  rows with other pivots from the front", counts, FRONT);
-}
-
-fn print_faults(counts: &[u64]) {
-    print(b"pairs refused", counts, REFUSED);
-    print(b"numbers of the result that differ", counts, DIFFERING);
-    print(b"counts that differ", counts, WRONG_COUNT);
-    print(
-        b"work buffers left with another number than 0",
-        counts,
-        NOT_CLEARED,
-    );
-    print(
-        b"rows with pivots picked from the front",
-        counts,
-        FRONT_CHOSEN,
-    );
-}
-
-fn try_pairs(pairs: u64, counts: &mut [u64]) {
+pub fn try_pairs(pairs: u64, counts: &mut [u64]) {
     let mut r = Random::new(1);
     let mut i = 0;
     while i < pairs {
@@ -89,6 +59,7 @@ fn try_pair(i: u64, from: Random, counts: &mut [u64]) -> Random {
         carried.below(5),
         carried,
     );
+    add(counts, LINKS + (i / 8 % 6) as usize, 1);
     judge_both(&pattern, &log, r, counts);
     r
 }
@@ -106,16 +77,16 @@ fn step_count(kind: u64, x: u16) -> u16 {
 fn judge_both(pattern: &[u16], log: &[u16], r: Random, counts: &mut [u64]) {
     let mut result = [0u16; 10240];
     let mut work = [0u16; 16384];
-    crate::counts::fill_noise(&mut result, r.below(65536) as u16);
+    tallies::fill_noise(&mut result, r.below(65536) as u16);
     noise_or_zeros(&mut work, r.below(65521) as u16, r.below(2) == 0);
     let a = judging::judge(pattern, log, &mut result, &mut work);
-    add_if(counts, NOT_CLEARED, !crate::counts::all_zero(&work));
+    add_if(counts, NOT_CLEARED, !tallies::all_zero(&work));
     compare(pattern, log, a, &result, counts);
 }
 
 fn noise_or_zeros(s: &mut [u16], from: u16, noise: bool) {
     if noise {
-        crate::counts::fill_noise(s, from);
+        tallies::fill_noise(s, from);
     }
 }
 
@@ -124,12 +95,16 @@ fn compare(pattern: &[u16], log: &[u16], a: Answer, result: &[u16], counts: &mut
     let n = places::step_count(log);
     let beads = places::bead_count(pattern);
     let whole = judge_apart(pattern, log, n, beads, result, &mut rows, counts);
-    add(counts, PAIRS, 1);
-    add(counts, BEADS as usize + beads as usize - 1, 1);
-    add(counts, ROWS, n as u64);
     add(counts, DIFFERING, differing(result, 0, &rows, 0, 10240));
-    add_if(counts, REFUSED, a.number != 0);
     add_if(counts, WRONG_COUNT, a.count != whole);
+    count_pair(n, beads, a, counts);
+}
+
+fn count_pair(n: u16, beads: u16, a: Answer, counts: &mut [u64]) {
+    add(counts, PAIRS, 1);
+    add(counts, BEADS + beads as usize, 1);
+    add(counts, ROWS, n as u64);
+    add_if(counts, REFUSED, a.number != 0);
 }
 
 // The rows by the other judge, and at how many steps the whole pattern holds.
@@ -176,7 +151,7 @@ fn judge_rows(
 fn count_bits(prefixes: u16, counts: &mut [u64]) {
     let mut k = 0;
     while k < 8 {
-        add_if(counts, BITS as usize + k as usize, has(prefixes, k));
+        add_if(counts, PREFIXES + 1 + k as usize, has(prefixes, k));
         k += 1;
     }
 }
@@ -192,7 +167,7 @@ fn count_whole(
     counts: &mut [u64],
 ) -> u16 {
     if has(get(begun, v as usize), beads) {
-        add(counts, WHOLE as usize + beads as usize - 1, 1);
+        add(counts, WHOLE + beads as usize, 1);
         count_front(beads, on, begun, v, result, rows, counts);
         return 1;
     }

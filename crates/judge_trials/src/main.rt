@@ -1,12 +1,11 @@
-// Random patterns and logs: the judge against one made apart from it (`other_judge`), and demand 3 on pairs of logs. It prints what
-// was tried and how much of each kind.
-mod added;
+// Random patterns and logs: the judge against one made apart from it (`other_judge`). It prints what was tried and how much of each
+// kind; `names.txt` has the names of the counts.
 mod agree;
-mod beyond;
-mod counts;
 
 fn main() {
-    agree::run(3200);
-    beyond::run(1600);
-    added::run(1600);
+    let mut names = [0u8; 2048];
+    let mut counts = [0u64; 38];
+    let n = trial::load(b"names.txt", &mut names);
+    agree::try_pairs(3200, &mut counts);
+    tallies::print_counts(&names[..n], &counts);
 }

@@ -15,14 +15,14 @@ abbrev μ-loop : tie.MeasureT-loop
 loop-holds : tie.Need-loop-holds Inv-loop μ-loop
 loop-holds c = search needs
 
+add-add-if : tie.Need-add-add-if Inv-loop μ-loop
+add-add-if c = search needs
+
 cast-add-if : tie.Need-cast-add-if Inv-loop μ-loop
 cast-add-if c = search needs
 
-cast-add-if-2 : tie.Need-cast-add-if-2 Inv-loop μ-loop
-cast-add-if-2 c = search needs
-
-add-add-if : tie.Need-add-add-if Inv-loop μ-loop
-add-add-if c = search needs
+add-add-if-2 : tie.Need-add-add-if-2 Inv-loop μ-loop
+add-add-if-2 c = search needs
 
 has-requires : tie.Need-has-requires Inv-loop μ-loop
 has-requires c κs = search needs
@@ -52,9 +52,9 @@ count-bits-spec =
     Inv-loop
     μ-loop
     loop-holds
-    cast-add-if
-    cast-add-if-2
     add-add-if
+    cast-add-if
+    add-add-if-2
     has-requires
     add-if-requires
     add-k

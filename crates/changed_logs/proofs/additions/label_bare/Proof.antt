@@ -1,0 +1,68 @@
+-- `label_bare`: a turn a step.
+use Prim.Native.Nat.{_-_}
+use borrow.Author.Needs.{needs}
+use lib.ListN.{length}
+use mathlib.Core.Path.{_≡_}
+use Rattle.changed_logs.proofs.additions.label_bare.Statement.{statement}
+use Rattle.changed_logs.proofs.additions.label_bare.Tie as tie
+
+abbrev Inv-loop : tie.InvT-loop
+Inv-loop log labels second₀ n r₀ w₀ second r w = length second ≡ length second₀
+
+abbrev μ-loop : tie.MeasureT-loop
+μ-loop log labels second₀ n r₀ w₀ second r w = n - w
+
+step-count-requires : tie.Need-step-count-requires Inv-loop μ-loop
+step-count-requires c κs = search needs
+
+next-requires : tie.Need-next-requires Inv-loop μ-loop
+next-requires c κs = search needs
+
+below-requires : tie.Need-below-requires Inv-loop μ-loop
+below-requires c κs = search needs
+
+cast-add-step : tie.Need-cast-add-step Inv-loop μ-loop
+cast-add-step c = search needs
+
+add-step-requires : tie.Need-add-step-requires Inv-loop μ-loop
+add-step-requires c κs = search needs
+
+loop-holds : tie.Need-loop-holds Inv-loop μ-loop
+loop-holds c = search needs
+
+label-step-requires : tie.Need-label-step-requires Inv-loop μ-loop
+label-step-requires c κs = search needs
+
+add-w : tie.Need-add-w Inv-loop μ-loop
+add-w c = search needs
+
+loop-less : tie.Need-loop-less Inv-loop μ-loop
+loop-less c = search needs
+
+loop-again : tie.Need-loop-again Inv-loop μ-loop
+loop-again c = search needs
+
+same-length : tie.Need-same-length Inv-loop μ-loop
+same-length c = search needs
+
+returns : tie.Need-returns Inv-loop μ-loop
+returns c = search needs
+
+pub label-bare-spec : {M : Type 1} → statement M
+label-bare-spec =
+    tie.close
+    (tie.spec
+    Inv-loop
+    μ-loop
+    step-count-requires
+    next-requires
+    below-requires
+    cast-add-step
+    add-step-requires
+    loop-holds
+    label-step-requires
+    add-w
+    loop-less
+    loop-again
+    same-length
+    returns)
