@@ -101,7 +101,7 @@ module _ (log : List ℕ) (x from to : ℕ) (laid : Laid log) (h : x < stepsIn l
   pub links-order : linkAt from ≤ linkAt to
   links-order = let k = laid .order x h in let b = begins .place in let e = ends .place in omega arith
 
-  links-are : take (linkAt to - linkAt from) (drop (linkAt from) log) ≡ linksInto log x
+  pub links-are : take (linkAt to - linkAt from) (drop (linkAt from) log) ≡ linksInto log x
   links-are =
       let n : linkAt to - linkAt from ≡ to - from = omega arith in
       ap (λ (k : ℕ). take k (drop (linkAt from) log)) n ∙ rw (begins .place, ends .place)

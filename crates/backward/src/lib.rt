@@ -38,7 +38,7 @@ fn add_to_all(links: &[u16], set: u16, states: &mut [u16])
 }
 
 // Where among the links those of the step v begin; after the last step, the link count.
-fn begin(log: &[u16], v: usize) -> usize
+pub fn begin(log: &[u16], v: usize) -> usize
     requires { ⌜ Laid (now log) ⌝ }
     requires { ⌜ v ≤ stepsIn (now log) ⌝ }
     ensures { λ r. ⌜ Begins (now (log .entry)) v r ⌝ }
@@ -59,7 +59,7 @@ pub fn push(log: &[u16], x: usize, set: u16, states: &mut [u16])
 }
 
 // The sets with which the pass begins: the goal at the target, and no states elsewhere.
-fn begin_pass(target: usize, goal: u16, states: &mut [u16])
+pub fn begin_pass(target: usize, goal: u16, states: &mut [u16])
     requires { ⌜ target < length (now states) ⌝ }
     ensures { λ _. ⌜ now (states .exit) ≡ set (replicate (length (now (states .entry))) 0) target goal ⌝ }
 {

@@ -1,1 +1,4 @@
 pub mod Agrees
+pub mod GatherLaws
+pub mod EnterLaws
+pub mod PassLaws
