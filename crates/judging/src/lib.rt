@@ -10,6 +10,7 @@ ghost use Rattle.judging.specs.Result.{resultFrom, Sized};
 ghost use Rattle.judging.specs.Judge.{wholeUpTo, rowsOf, judgeAnswer, resultAfter, workAfter};
 ghost use Rattle.judging.specs.Fit.{fitAnswer, fitResult, fitWork};
 use answer::Answer;
+use passes::Ready;
 ghost use Rattle.rows.specs.Rows.{wholeFrom};
 
 // Both phases: the sets of prefixes, and the pivots.
@@ -27,7 +28,8 @@ fn fill_arrays(
     ensures { λ _. ⌜ WalkedDownTo (logOf (now (log .entry))) (patternOf (now (pattern .entry))) (stepsIn (now (log .entry))) 0 (now (pivots .exit)) ⌝ }
 {
     let mut flags = [0u16; 1024];
-    let ready = phases::prefixes::mark_prefixes(pattern, log, prefixes, work, &mut flags);
+    let ready = Ready { bead: 0, target: 0 };
+    phases::prefixes::mark_prefixes(pattern, log, prefixes, work);
     phases::walk::walk_back(pattern, log, ready, prefixes, pivots, work, &mut flags);
 }
 

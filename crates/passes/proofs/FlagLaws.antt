@@ -19,7 +19,7 @@ use Rattle.pattern_line.specs.Limits.{ruleAt, statesAt, acceptingAt}
 use Rattle.pattern_buffer.specs.Meaning.{at, automatonOf, patternOf}
 use Rattle.log_buffer.specs.Meaning.{stepsIn, logOf}
 use Rattle.backward.specs.Backward.{PassedBy}
-use Rattle.passes.specs.Passes.{Marked, Flagged, FlagsBy, prefixAt, Earlier, AtHand, servesSome, servesAll, flagAt}
+use Rattle.passes.specs.Passes.{Marked, Flagged, FlagsBy, prefixAt, Earlier, AtHand, servesSome, servesAll}
 use Rattle.step_table.proofs.SetLaws.{someBelow-ext}
 use Rattle.step_table.proofs.FilledLaws.{filled-none, filled-more, filled-end}
 use Rattle.step_table.proofs.TableLaws.{next-within}
@@ -66,22 +66,6 @@ flags-end f n i l h d = record { numbers = filled-end (λ i. cond (f i) 1 0) n i
 
 pub ruleset kit = (flags-none, flags-more, flags-end)
 
-pub some-flag-none : (flags : List ℕ) → someBelow 0 (flagAt flags) ≡ false
-some-flag-none flags = someBelow-none (flagAt flags)
-
-pub some-flag-on : (flags : List ℕ) (u : ℕ) → someBelow u (flagAt flags) ≡ false → getD flags u 0 ≡ 0 → someBelow (u + 1) (flagAt flags) ≡ false
-some-flag-on flags u inv e = someBelow-more u (flagAt flags) ∙ ap₂ _||_ inv (ap not (eq-eqb (getD flags u 0) 0 e))
-
-pub some-flag-stop : (flags : List ℕ) (n u : ℕ) → u < n → (getD flags u 0 ≡ 0 → ⊥) → true ≡ someBelow n (flagAt flags)
-some-flag-stop flags n u h z =
-    sym (yes-true (someBelow n (flagAt flags))
-    (someBelow-in n (flagAt flags) u h (true-yes (flagAt flags u) (ap not (ne-eqb (getD flags u 0) 0 z)))))
-
-pub some-flag-end : (flags : List ℕ) (n u : ℕ) → u ≤ n → n ≤ u → someBelow u (flagAt flags) ≡ false → false ≡ someBelow n (flagAt flags)
-some-flag-end flags n u h k inv = let e : u ≡ n = omega arith in sym (rw e at inv)
-
-pub ruleset some-flag-kit = (some-flag-none, some-flag-on, some-flag-stop, some-flag-end)
-
 -- ---- what the flags say
 
 -- the marks of more beads tell of fewer
@@ -117,7 +101,7 @@ exchange-backward G A F v w q =
     ∙ sym (ap (λ (s : ℕ → ℕ → Bool). s w q) (backward-pass G A F v))
 
 -- the other states of an automaton, as a set
-member-others : (n s r : ℕ) → (ltb r n && not (member r s)) ≡ member r (complement n s)
+pub member-others : (n s r : ℕ) → (ltb r n && not (member r s)) ≡ member r (complement n s)
 member-others n s r = go (ltb r n) refl
   where
     go : (b : Bool) → ltb r n ≡ b → (b && not (member r s)) ≡ member r (complement n s)
@@ -172,14 +156,5 @@ module _ (pattern log work : List ℕ) (j v : ℕ) (prefixes states flags : List
     pub all-flags : at pattern (ruleAt j) ≡ 2 → FlagsBy (servesAll states others prefixes j) v flags
         → Flagged (logOf log) (patternOf pattern) j v flags
     all-flags rule d = record { flag = λ u h. d .numbers .number u h ∙ ap (λ (b : Bool). cond b 1 0) (all-serves rule u h) }
-
--- a flag says that the next prefix holds
-pub flagged-holds : (G : Dag) (P : Pattern) (k v : ℕ) (flags : List ℕ) → Flagged G P k v flags → someBelow v (flagAt flags) ≡ holds? G P (suc k) v
-unfolding holds?
-flagged-holds G P k v flags d = someBelow-ext v (flagAt flags) (serves? G P k v) (λ u h. ap (λ (x : ℕ). not (eqb x 0)) (d .flag u h) ∙ go (serves? G P k v u))
-  where
-    go : (b : Bool) → not (eqb (cond b 1 0) 0) ≡ b
-    go true = refl
-    go false = refl
 
 pub ruleset make-kit = (some-flags, all-flags)

@@ -1,3 +1,4 @@
 pub mod FlagLaws
 pub mod Facts
 pub mod ServingLaws
+pub mod ReachLaws

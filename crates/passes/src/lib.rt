@@ -1,17 +1,17 @@
 // Which steps serve as the pivot before a target: SOME and ALL are decided bead by bead, for all starting vertices at once, by backward
-// passes from the target.
+// passes from the target. And whether a bead reaches a step, by the step's set of a forward pass.
 ghost use mathlib.Core.Path.{_≡_};
 ghost use mathlib.Core.Bool.{cond};
 ghost use Prim.Native.Nat.{_<_, _≤_};
 ghost use lib.ListN.{length};
-ghost use Rattle.sets.specs.Sets.{someBelow, complement};
+ghost use Rattle.sets.specs.Sets.{complement};
 ghost use Rattle.pattern_line.specs.Limits.{mostBeads, ruleAt, statesAt, acceptingAt};
 ghost use Rattle.log_line.specs.Limits.{mostSteps};
 ghost use Rattle.log_buffer.specs.Meaning.{logOf, stepsIn};
 ghost use Rattle.pattern_buffer.specs.Meaning.{at, patternOf};
 ghost use Rattle.step_table.specs.Table.{tableLength};
 ghost use Rattle.backward.specs.Backward.{PassedBy};
-ghost use Rattle.passes.specs.Passes.{Flagged, FlagsBy, prefixAt, servesSome, servesAll, BeadIn, Asked, AtHand, ReadyFor, Served, flagAt};
+ghost use Rattle.passes.specs.Passes.{Flagged, FlagsBy, prefixAt, servesSome, servesAll, BeadIn, Asked, AtHand, ReadyFor, Served, reachesAll, reachesBy};
 
 // What is at hand between calls of `serving`: with bead 0 nothing; else the step table of the bead, numbered from 1, and the flags of
 // the target.
@@ -21,7 +21,7 @@ pub struct Ready {
 }
 
 // Do the first beads, as many as `bead` says, hold at u?
-fn prefix_at(prefixes: &[u16], bead: usize, u: usize) -> bool
+pub fn prefix_at(prefixes: &[u16], bead: usize, u: usize) -> bool
     requires { ⌜ bead < mostBeads ⌝ }
     requires { ⌜ u < length (now prefixes) ⌝ }
     ensures { λ r. ⌜ r ≡ prefixAt (now (prefixes .entry)) bead u ⌝ }
@@ -243,17 +243,26 @@ pub fn serving(
     ready
 }
 
-// Is there a flag below a place?
-pub fn some_flag(flags: &[u16], below: usize) -> bool
-    requires { ⌜ below ≤ length (now flags) ⌝ }
-    ensures { λ r. ⌜ r ≡ someBelow below (flagAt (now (flags .entry))) ⌝ }
+// Does an ALL bead reach the step that has this set in a forward pass? The set has an accepting state, and no other.
+fn reaches_all(pattern: &[u16], bead: usize, set: u16) -> bool
+    requires { ⌜ BeadIn (now pattern) bead ⌝ }
+    ensures { λ r. ⌜ r ≡ reachesAll (now (pattern .entry)) bead set ⌝ }
 {
-    let mut u = 0;
-    while u < below {
-        if flags[u] != 0 {
-            return true;
-        }
-        u += 1;
+    let accepting = sets::overlaps(pattern[18 + bead], set);
+    if accepting {
+        let more = sets::overlaps(other_states(pattern, bead), set);
+        return !more;
     }
     false
+}
+
+// Does the bead reach, from the starting step of a forward pass, the step that has this set in it?
+pub fn reaches(pattern: &[u16], bead: usize, set: u16) -> bool
+    requires { ⌜ BeadIn (now pattern) bead ⌝ }
+    ensures { λ r. ⌜ r ≡ reachesBy (now (pattern .entry)) bead set ⌝ }
+{
+    if pattern[2 + bead] == 2 {
+        return reaches_all(pattern, bead, set);
+    }
+    sets::overlaps(pattern[18 + bead], set)
 }

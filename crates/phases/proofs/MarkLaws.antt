@@ -2,62 +2,30 @@
 -- Assumes nothing.
 use Prim.Native.Nat.{ℕ, zero, suc, _+_, _-_, _*_, _/_, _%_, _^_, _≤_, _<_}
 use mathlib.Core.Path.{_≡_, refl, sym, ap, _∙_, subst}
-use mathlib.Core.Bool.{Bool, true, false, not, cond}
+use mathlib.Core.Bool.{Bool, true, false}
 use mathlib.Core.List.{List}
-use native.Mathlib.Nat.{mod-lt, mul-zero, div-lt-iff-lt-mul, mul-le-mul}
+use native.Mathlib.Decide.{decLt}
+use native.Mathlib.Nat.{mod-lt, zero-mod, mul-zero, suc-mul, div-add-mod', div-lt-iff-lt-mul, mul-le-mul}
 use native.Mathlib.Numerals.{add-one}
 use native.Mathlib.Omega.{arith}
-use lib.Dec.{T, eqb, eqb-refl}
-use lib.ListN.{length, getD, set, replicate}
-use Rattle.sets.specs.Sets.{singleton, union, someBelow}
-use Rattle.sets.proofs.Laws.{someBelow-out, someBelow-in}
-use Rattle.sets.proofs.Truth.{same}
+use lib.Arith.{digits-div, digits-mod}
+use lib.ListN.{length, getD}
 use Rattle.necklace.specs.Dag.{Dag}
 use Rattle.necklace.specs.Necklace.{Pattern}
-use Rattle.necklace.specs.Compute.{holds?, serves?}
-use Rattle.log_line.specs.Limits.{mostSteps}
+use Rattle.necklace.specs.Compute.{holds?}
 use Rattle.log_buffer.specs.Meaning.{logOf, stepsIn}
-use Rattle.pattern_buffer.specs.Meaning.{beadsIn, labelsIn, patternOf}
+use Rattle.log_buffer.proofs.Meaning.{log-well-formed}
+use Rattle.pattern_buffer.specs.Meaning.{beadsIn, labelsIn, automatonOf, patternOf}
 use Rattle.passes.specs.declared.Ready.{Ready}
-use Rattle.step_table.specs.Table.{Laid}
-use Rattle.passes.specs.Passes.{Flagged, Asked, Earlier, prefixAt, Served, ReadyFor, flagAt}
-use Rattle.passes.proofs.Facts.{laid, bead-in, asked}
-use Rattle.passes.proofs.ServingLaws.{ready-none}
+use Rattle.step_table.specs.Table.{Tabled, Laid}
+use Rattle.forward.specs.Pass.{ForwardedBy}
+use Rattle.passes.specs.Passes.{BeadIn, Earlier, prefixAt, Served, ReadyFor}
+use Rattle.passes.proofs.Facts.{laid, bead-in}
+use Rattle.passes.proofs.ReachLaws.{reaches-satisfies}
 use Rattle.pattern_buffer.proofs.Places.{passes-out}
-use Rattle.phases.specs.Phases.{Tried, Turns, Unmarked, MarkedUpTo, Marks, markedBy}
-use Rattle.phases.proofs.PrefixPhase.{marked-none, marked-yes, marked-no, marked-all, marked-earlier}
-
--- ---- some flag below v is set exactly if the prefix holds
-
-flag-is : (b : Bool) → not (eqb (cond b 1 0) 0) ≡ b
-flag-is true = refl
-flag-is false = refl
-
-pub holds-by-flags : (G : Dag) (P : Pattern) (k v : ℕ) (flags : List ℕ) → Flagged G P k v flags → someBelow v (flagAt flags) ≡ holds? G P (suc k) v
-unfolding holds?
-holds-by-flags G P k v flags g = same (someBelow v (flagAt flags)) (someBelow v (serves? G P k v)) forth back
-  where
-    flagged : (u : ℕ) → u < v → flagAt flags u ≡ serves? G P k v u
-    flagged u h = ap (λ (x : ℕ). not (eqb x 0)) (g .flag u h) ∙ flag-is (serves? G P k v u)
-
-    forth : T (someBelow v (flagAt flags)) → T (someBelow v (serves? G P k v))
-    forth t = let r = someBelow-out v (flagAt flags) t in someBelow-in v (serves? G P k v) (r .0) (r .1) (subst T (flagged (r .0) (r .1)) (r .2))
-
-    back : T (someBelow v (serves? G P k v)) → T (someBelow v (flagAt flags))
-    back t = let r = someBelow-out v (serves? G P k v) t in someBelow-in v (flagAt flags) (r .0) (r .1) (subst T (sym (flagged (r .0) (r .1))) (r .2))
-
--- ---- the step's set after the turn
-
-pub mark-yes : (flags prefixes : List ℕ) (k v : ℕ) (b : Bool) → b ≡ someBelow v (flagAt flags) → b ≡ true → (x r : ℕ) → x ≡ singleton k
-    → r ≡ union 16 (getD prefixes v 0) x → set prefixes v r ≡ markedBy flags k v prefixes
-unfolding markedBy
-mark-yes flags prefixes k v b e y x r ex er = rw (← e, y, er, ex) refl
-
-pub mark-no : (flags prefixes : List ℕ) (k v : ℕ) (b : Bool) → b ≡ someBelow v (flagAt flags) → b ≡ false → prefixes ≡ markedBy flags k v prefixes
-unfolding markedBy
-mark-no flags prefixes k v b e y = rw (← e, y) refl
-
-pub ruleset mark-kit = (mark-yes, mark-no)
+use Rattle.phases.specs.Phases.{Tried, Turns, TurnOf, TableAt, Unmarked, Added, reachesAt, satisfiesFrom, servesFrom, MarkedUpTo, Marks}
+use Rattle.phases.proofs.PrefixPhase.{marked-none, marked-turn, marked-all, marked-earlier}
+use Rattle.phases.proofs.AddLaws.{added-ext, added-none}
 
 -- ---- what the tests give
 
@@ -117,7 +85,28 @@ module _ (pattern log : List ℕ) (n turns : ℕ) (t : Turns pattern log n turns
     pub step-small : turn % n < 1024
     step-small = let a = turn-step in let b = steps-few in omega arith
 
-    module _ (prefixes : List ℕ) (m : MarkedUpTo (logOf log) (patternOf pattern) n turn prefixes) (long : 1024 ≤ length prefixes) where
+    pub turn-of : TurnOf pattern log n (turn / n) (turn % n)
+    turn-of = record { tried = t .tried; steps-are = t .steps-are; bead = bead-inside; start = turn-step }
+
+    -- the step table of a turn is at hand at the next, if that is the same bead's
+    pub table-next : (work : List ℕ) → Tabled (logOf log) (automatonOf pattern (turn / n)) (stepsIn log) work
+        → TableAt pattern log ((turn + 1) / n) ((turn + 1) % n) work
+    table-next work d = record { table = λ ne. subst (λ (k : ℕ). Tabled (logOf log) (automatonOf pattern k) (stepsIn log) work) (sym (go ne (decLt (turn % n + 1) n))) d }
+      where
+        parts : turn + 1 ≡ turn / n * n + (turn % n + 1)
+        parts = let e = div-add-mod' turn n in omega arith
+
+        go : ((turn + 1) % n ≡ 0 → ⊥) → Dec (turn % n + 1 < n) → (turn + 1) / n ≡ turn / n
+        go ne (yes l) = ap (λ (x : ℕ). x / n) parts ∙ digits-div (turn / n) l
+        go ne (no l) =
+            let r = turn-step in
+            let e : turn + 1 ≡ (turn / n + 1) * n + 0 = parts ∙ whole (turn / n) (turn % n + 1) (omega arith) in
+            absurd (ne (ap (λ (x : ℕ). x % n) e ∙ digits-mod (turn / n + 1) steps-some))
+          where
+            whole : (q r : ℕ) → r ≡ n → q * n + r ≡ (q + 1) * n + 0
+            whole q r e = rw (e, add-one q, suc-mul q n) (omega arith)
+
+    module _ (prefixes : List ℕ) (m : MarkedUpTo (logOf log) (patternOf pattern) n turn prefixes) where
       earlier-at : (k : ℕ) → k ≤ turn / n → Earlier (logOf log) (patternOf pattern) k (stepsIn log) prefixes
       unfolding prefixAt holds?
       earlier-at zero g = record { holds = λ u l. refl }
@@ -128,29 +117,14 @@ module _ (pattern log : List ℕ) (n turns : ℕ) (t : Turns pattern log n turns
                 (let e = t .steps-are in omega arith);
           }
 
-      pub turn-asked : Asked pattern log (turn / n) (turn % n) prefixes
-      turn-asked =
-          asked (labelsIn pattern) pattern log (turn / n) (turn % n) prefixes (t .tried .is-pattern) (t .tried .is-log) bead-inside step-inside long
-          (earlier-at (turn / n) (omega arith))
+      pub turn-earlier : Earlier (logOf log) (patternOf pattern) (turn / n) (stepsIn log) prefixes
+      turn-earlier = earlier-at (turn / n) (omega arith)
 
       -- A turn's marks.
-      pub turn-marked : (made : Ready) (work flags new : List ℕ) → Served (logOf log) (patternOf pattern) (stepsIn log) (turn / n) (turn % n) made work flags
-          → new ≡ markedBy flags (turn / n) (turn % n) prefixes → MarkedUpTo (logOf log) (patternOf pattern) n (turn + 1) new
-      unfolding markedBy
-      turn-marked made work flags new s e = rw e (go (someBelow (turn % n) (flagAt flags)) refl)
-        where
-          is-held : someBelow (turn % n) (flagAt flags) ≡ holds? (logOf log) (patternOf pattern) (turn / n + 1) (turn % n)
-          is-held =
-              holds-by-flags (logOf log) (patternOf pattern) (turn / n) (turn % n) flags (s .flagged)
-              ∙ ap (λ (k : ℕ). holds? (logOf log) (patternOf pattern) k (turn % n)) (sym (add-one (turn / n)))
-
-          go : (b : Bool) → someBelow (turn % n) (flagAt flags) ≡ b
-              → MarkedUpTo (logOf log) (patternOf pattern) n (turn + 1)
-              (cond b (set prefixes (turn % n) (union 16 (getD prefixes (turn % n) 0) (singleton (turn / n)))) prefixes)
-          go true y =
-              marked-yes (logOf log) (patternOf pattern) n prefixes turn m steps-some bead-small (let a = step-small in omega arith) (singleton (turn / n))
-              (union 16 (getD prefixes (turn % n) 0) (singleton (turn / n))) refl refl (sym is-held ∙ y)
-          go false y = marked-no (logOf log) (patternOf pattern) n prefixes turn m steps-some (sym is-held ∙ y)
+      pub turn-marked : (new : List ℕ)
+          → Added (servesFrom (logOf log) (patternOf pattern) (turn / n) (turn % n)) (turn / n) (turn % n) n prefixes new
+          → MarkedUpTo (logOf log) (patternOf pattern) n (turn + 1) new
+      turn-marked new a = marked-turn (logOf log) (patternOf pattern) n turn prefixes new m (turn / n) (turn % n) (sym (div-add-mod' turn n)) turn-step a
 
   pub none-marked : (prefixes : List ℕ) → Unmarked prefixes → MarkedUpTo (logOf log) (patternOf pattern) n 0 prefixes
   none-marked prefixes u = marked-none (logOf log) (patternOf pattern) n prefixes (u .none)
@@ -164,9 +138,82 @@ module _ (pattern log : List ℕ) (n turns : ℕ) (t : Turns pattern log n turns
         (let q : turn ≡ turns = omega arith in q ∙ t .turns-are) m v (let e = t .steps-are in omega arith);
   }
 
+  pub table-first : (work : List ℕ) → TableAt pattern log (0 / n) (0 % n) work
+  table-first work = record { table = λ ne. absurd (ne (zero-mod n)) }
+
 pub ready-again : (G : Dag) (P : Pattern) (n k v : ℕ) (made : Ready) (work flags : List ℕ) → Served G P n k v made work flags → ReadyFor G P n made work flags
 ready-again G P n k v made work flags s = s .kept
 
-pub ruleset turn-kit = (steps-some, bead-small, step-small, turn-asked, turn-marked, none-marked, all-marked, ready-none, ready-again)
+pub ruleset turn-kit = (steps-some, turn-of, turn-earlier, turn-marked, table-first, table-next, none-marked, all-marked)
 
 pub ruleset tried-kit = (turns-tried, turns-fit, log-there, pattern-there)
+
+-- ---- one turn
+
+module _ (pattern log : List ℕ) (n k u : ℕ) (t : TurnOf pattern log n k u) where
+  pub turn-bead : BeadIn pattern k
+  turn-bead = bead-in pattern k (t .tried .is-pattern) (t .bead)
+
+  pub turn-laid : Laid log
+  turn-laid = lies pattern log (t .tried)
+
+  pub turn-start : u < stepsIn log
+  turn-start = let h = t .start in let e = t .steps-are in omega arith
+
+  pub turn-below : u < n
+  turn-below = t .start
+
+  pub turn-small : u < 1024
+  turn-small = let h = turn-start in let f = turn-laid .few in omega arith
+
+  pub turn-inside : (l : List ℕ) → 1024 ≤ length l → u < length l
+  turn-inside l h = let b = turn-small in omega arith
+
+  pub turn-few : n ≤ 1024
+  turn-few = let f = turn-laid .few in let e = t .steps-are in omega arith
+
+  pub turn-long : 2074 ≤ length pattern
+  turn-long = turn-bead .long
+
+  pub turn-place : k < 8
+  turn-place = turn-bead .place
+
+  pub turn-table : (work : List ℕ) → TableAt pattern log k u work → (u ≡ 0 → ⊥) → Tabled (logOf log) (automatonOf pattern k) (stepsIn log) work
+  turn-table work a h = a .table h
+
+  -- what the forward pass reaches is what the bead holds on
+  pub reached-satisfies : (work states old new : List ℕ) → Tabled (logOf log) (automatonOf pattern k) (stepsIn log) work → ForwardedBy log work u states
+      → Added (reachesAt pattern k states) k u n old new → Added (satisfiesFrom (logOf log) (patternOf pattern) k u) k u n old new
+  unfolding reachesAt satisfiesFrom
+  reached-satisfies work states old new d p a =
+      added-ext (reachesAt pattern k states) (satisfiesFrom (logOf log) (patternOf pattern) k u) k u n old new (λ v up r. same v up r) a
+    where
+      same : (v : ℕ) → u < v → v < n → reachesAt pattern k states v ≡ satisfiesFrom (logOf log) (patternOf pattern) k u v
+      same v up r =
+          reaches-satisfies pattern log work (log-well-formed (labelsIn pattern) log (t .tried .is-log)) k u states d p v up (let e = t .steps-are in omega arith)
+
+  module _ (b : Bool) (prefixes : List ℕ) (earlier : Earlier (logOf log) (patternOf pattern) k (stepsIn log) prefixes) (e : b ≡ prefixAt prefixes k u) where
+    held : b ≡ holds? (logOf log) (patternOf pattern) k u
+    held = e ∙ earlier .holds u turn-start
+
+    pub served-yes : (new : List ℕ) → b ≡ true → Added (satisfiesFrom (logOf log) (patternOf pattern) k u) k u n prefixes new
+        → Added (servesFrom (logOf log) (patternOf pattern) k u) k u n prefixes new
+    unfolding satisfiesFrom servesFrom
+    served-yes new y a =
+        added-ext (satisfiesFrom (logOf log) (patternOf pattern) k u) (servesFrom (logOf log) (patternOf pattern) k u) k u n prefixes new (λ v up r. same v) a
+      where
+        same : (v : ℕ) → satisfiesFrom (logOf log) (patternOf pattern) k u v ≡ servesFrom (logOf log) (patternOf pattern) k u v
+        same v = rw (← held, y) refl
+
+    pub served-no : b ≡ false → Added (servesFrom (logOf log) (patternOf pattern) k u) k u n prefixes prefixes
+    unfolding servesFrom
+    served-no y = added-none (servesFrom (logOf log) (patternOf pattern) k u) k u n prefixes (λ v up r. same v)
+      where
+        same : (v : ℕ) → servesFrom (logOf log) (patternOf pattern) k u v ≡ false
+        same v = rw (← held, y) refl
+
+pub ruleset from-kit = (turn-bead, turn-laid, turn-start, turn-below, turn-few, reached-satisfies)
+
+pub ruleset served-kit = (turn-place, turn-inside, served-yes, served-no)
+
+pub ruleset table-kit = (turn-long, turn-laid, turn-place, turn-table)

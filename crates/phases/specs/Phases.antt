@@ -1,19 +1,20 @@
 -- What the judge's two phases have done after a while: bead by bead and, for each bead, vertex by vertex.
-use Prim.Native.Nat.{ℕ, _+_, _-_, _*_, _≤_, _<_}
+use Prim.Native.Nat.{ℕ, _+_, _-_, _*_, _≤_, _<_, min}
 use mathlib.Core.Path.{_≡_}
-use mathlib.Core.Bool.{cond, _&&_}
+use mathlib.Core.Bool.{Bool, cond, _&&_, _||_}
 use mathlib.Core.List.{List}
-use lib.Dec.{T, ltb}
+use lib.Dec.{T, eqb, ltb}
 use lib.ListN.{length, getD, set}
 use Rattle.sets.specs.Sets.{member, singleton, union, someBelow}
 use Rattle.necklace.specs.Dag.{Dag}
 use Rattle.necklace.specs.Necklace.{Pattern}
-use Rattle.necklace.specs.Compute.{holds?, prefixes}
-use Rattle.pattern_buffer.specs.Meaning.{labelsIn, beadsIn, patternOf}
+use Rattle.necklace.specs.Compute.{satisfies?, holds?, serves?, prefixes}
+use Rattle.pattern_buffer.specs.Meaning.{labelsIn, beadsIn, automatonOf, patternOf}
 use Rattle.pattern_buffer.specs.Valid.{isPattern}
 use Rattle.log_buffer.specs.Meaning.{stepsIn, logOf}
 use Rattle.log_buffer.specs.Valid.{isLog}
-use Rattle.passes.specs.Passes.{pivotBack, flagAt}
+use Rattle.step_table.specs.Table.{Tabled}
+use Rattle.passes.specs.Passes.{pivotBack, reachesBy}
 use Rattle.rows.specs.Rows.{pivotAt}
 
 -- Both buffers passed their tests.
@@ -27,18 +28,45 @@ pub record Turns (pattern log : List ℕ) (n turns : ℕ) : Type 0 where
   pub steps-are : n ≡ stepsIn log
   pub turns-are : turns ≡ beadsIn pattern * n
 
--- The bead k is added to the set of the vertex v if some flag below v is set.
-unfoldable pub markedBy : List ℕ → ℕ → ℕ → List ℕ → List ℕ
-markedBy flags k v prefixes = cond (someBelow v (flagAt flags)) (set prefixes v (union 16 (getD prefixes v 0) (singleton k))) prefixes
+-- A turn of the first phase: a bead of the pattern, and a starting vertex of the log.
+pub record TurnOf (pattern log : List ℕ) (n k u : ℕ) : Type 0 where
+  pub tried : Tried pattern log
+  pub steps-are : n ≡ stepsIn log
+  pub bead : k < beadsIn pattern
+  pub start : u < n
+
+-- The step table of the bead is at hand at each of its turns but the first.
+pub record TableAt (pattern log : List ℕ) (k u : ℕ) (work : List ℕ) : Type 0 where
+  pub table : (u ≡ 0 → ⊥) → Tabled (logOf log) (automatonOf pattern k) (stepsIn log) work
+
+-- The bead k is added to the set of the vertex v, if so.
+unfoldable pub markedIf : Bool → ℕ → ℕ → List ℕ → List ℕ
+markedIf b k v prefixes = cond b (set prefixes v (union 16 (getD prefixes v 0) (singleton k))) prefixes
+
+-- The bead k is added to the set of each vertex above u and below m that passes a test, and nothing else is.
+pub record Added (f : ℕ → Bool) (k u m : ℕ) (old new : List ℕ) : Type 0 where
+  pub few : ((v : ℕ) → getD old v 0 < 65536) → (v : ℕ) → getD new v 0 < 65536
+  pub sets : (j v : ℕ) → j < 16 → member j (getD new v 0) ≡ (member j (getD old v 0) || (eqb j k && (ltb u v && (ltb v m && f v))))
+
+-- The tests, for a starting vertex u: by the sets of a forward pass; the bead k + 1 holds on (u, v); and u serves as the pivot before v.
+unfoldable pub reachesAt : List ℕ → ℕ → List ℕ → ℕ → Bool
+reachesAt pattern k states v = reachesBy pattern k (getD states v 0)
+
+unfoldable pub satisfiesFrom : Dag → Pattern → ℕ → ℕ → ℕ → Bool
+satisfiesFrom G P k u v = satisfies? G (P .bead k) u v
+
+unfoldable pub servesFrom : Dag → Pattern → ℕ → ℕ → ℕ → Bool
+servesFrom G P k u v = serves? G P k v u
 
 -- No prefix is marked.
 pub record Unmarked (prefixes : List ℕ) : Type 0 where
   pub none : (v : ℕ) → _≡_ {A = ℕ} (getD prefixes v 0) 0
 
--- The prefixes, upwards: after i turns those of the bead k + 1 at the vertex v are marked where k * n + v is below i.
+-- The prefixes, upwards: after i turns, of which k * n + u is that of the bead k + 1 and the starting vertex u, a vertex v has the bead
+-- in its set if some u below v, whose turn is made, serves as the pivot before v.
 pub record MarkedUpTo (G : Dag) (P : Pattern) (n i : ℕ) (prefixes : List ℕ) : Type 0 where
   pub few : (v : ℕ) → getD prefixes v 0 < 65536
-  pub marks : (k v : ℕ) → k < 16 → v < n → member k (getD prefixes v 0) ≡ (ltb (k * n + v) i && holds? G P (k + 1) v)
+  pub marks : (k v : ℕ) → k < 16 → v < n → member k (getD prefixes v 0) ≡ someBelow (min (i - k * n) v) (serves? G P k v)
 
 -- After all turns: the set of prefixes of each vertex.
 pub record Marks (G : Dag) (P : Pattern) (n : ℕ) (sets : List ℕ) : Type 0 where

@@ -1,10 +1,8 @@
 -- The first phase gives what the second asks.
+use Rattle.passes.proofs.ServingLaws.{ready-none}
 use borrow.Author.Needs.{needs}
 use Rattle.judging.proofs.fill_arrays.Statement.{statement}
 use Rattle.judging.proofs.fill_arrays.Tie as tie
-
-slice-aggregate-mark-prefixes : tie.Need-slice-aggregate-mark-prefixes
-slice-aggregate-mark-prefixes c = search needs
 
 mark-prefixes-requires : tie.Need-mark-prefixes-requires
 mark-prefixes-requires c κs = search needs
@@ -13,7 +11,7 @@ slice-aggregate-walk-back : tie.Need-slice-aggregate-walk-back
 slice-aggregate-walk-back c = search needs
 
 walk-back-requires : tie.Need-walk-back-requires
-walk-back-requires c κs = (search needs, (search needs, (search needs, search needs)))
+walk-back-requires c κs = (search needs, (search needs, (search needs, search (needs, ready-none))))
 
 same-length : tie.Need-same-length
 same-length c = search needs
@@ -31,7 +29,6 @@ pub fill-arrays-spec : {M : Type 1} → statement M
 fill-arrays-spec =
     tie.close
     (tie.spec
-    slice-aggregate-mark-prefixes
     mark-prefixes-requires
     slice-aggregate-walk-back
     walk-back-requires

@@ -1,11 +1,8 @@
--- `mark` adds the bead where a flag is set.
-use Rattle.phases.proofs.MarkLaws.{mark-kit as kit}
+-- `mark` adds the bead, if so.
+use Rattle.phases.proofs.AddLaws.{mark-kit as kit}
 use borrow.Author.Needs.{needs}
 use Rattle.phases.proofs.prefixes.mark.Statement.{statement}
 use Rattle.phases.proofs.prefixes.mark.Tie as tie
-
-some-flag-requires : tie.Need-some-flag-requires
-some-flag-requires c κs = search (needs, kit)
 
 mul-union : tie.Need-mul-union
 mul-union c = search (needs, kit)
@@ -41,7 +38,6 @@ pub mark-spec : {M : Type 1} → statement M
 mark-spec =
     tie.close
     (tie.spec
-    some-flag-requires
     mul-union
     slice-read-union
     cast-singleton

@@ -28,9 +28,6 @@ same-length c = search (needs, kit)
 same-length-2 : tie.Need-same-length-2
 same-length-2 c = search (needs, kit)
 
-same-length-3 : tie.Need-same-length-3
-same-length-3 c = search (needs, kit)
-
 returns : tie.Need-returns
 returns c = search (needs, kit)
 
@@ -46,5 +43,4 @@ mark-prefixes-spec =
     mark-turns-requires
     same-length
     same-length-2
-    same-length-3
     returns)

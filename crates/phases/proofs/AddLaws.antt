@@ -1,0 +1,131 @@
+-- A bead added to the sets of vertices, vertex by vertex.
+use Prim.Native.Nat.{ℕ, _+_, _≤_, _<_}
+use mathlib.Core.Path.{_≡_, refl, sym, ap, _∙_}
+use mathlib.Core.Bool.{Bool, true, false, cond, _&&_, _||_}
+use mathlib.Core.List.{List}
+use native.Mathlib.Decide.{ℕ-discrete, decLt}
+use native.Mathlib.Omega.{arith}
+use borrow.Author.Tests.{lt-ltb, le-ltb}
+use lib.Dec.{ltb, eqb}
+use lib.ListN.{length, getD, set}
+use lib.Seq.{getD-set-same, getD-set-other}
+use Rattle.sets.specs.Sets.{member, singleton, union}
+use Rattle.sets.proofs.Laws.{member-union, member-singleton, union-below}
+use Rattle.passes.specs.Passes.{BeadIn, reachesBy}
+use Rattle.phases.specs.Phases.{Added, markedIf, reachesAt}
+use Rattle.phases.proofs.PrefixPhase.{later}
+
+-- ---- one vertex
+
+pub mark-yes : (prefixes : List ℕ) (k v : ℕ) (b : Bool) → b ≡ true → (x r : ℕ) → x ≡ singleton k → r ≡ union 16 (getD prefixes v 0) x
+    → set prefixes v r ≡ markedIf b k v prefixes
+unfolding markedIf
+mark-yes prefixes k v b y x r ex er = rw (y, er, ex) refl
+
+pub mark-no : (prefixes : List ℕ) (k v : ℕ) (b : Bool) → b ≡ false → prefixes ≡ markedIf b k v prefixes
+unfolding markedIf
+mark-no prefixes k v b y = rw y refl
+
+pub ruleset mark-kit = (mark-yes, mark-no)
+
+pub marked-at : (pattern states prefixes new : List ℕ) (k v : ℕ) (b : Bool) → b ≡ reachesBy pattern k (getD states v 0) → new ≡ markedIf b k v prefixes
+    → new ≡ markedIf (reachesAt pattern k states v) k v prefixes
+unfolding reachesAt
+marked-at pattern states prefixes new k v b eb e = e ∙ ap (λ (c : Bool). markedIf c k v prefixes) eb
+
+-- ---- the loop over the vertices after u
+
+or-nothing : (a b c : Bool) → (a || (b && (c && false))) ≡ a
+or-nothing true b c = refl
+or-nothing false true true = refl
+or-nothing false true false = refl
+or-nothing false false c = refl
+
+-- tests that agree where they count
+pub added-ext : (f g : ℕ → Bool) (k u m : ℕ) (old new : List ℕ) → ((v : ℕ) → u < v → v < m → f v ≡ g v) → Added f k u m old new → Added g k u m old new
+added-ext f g k u m old new h a = record { few = a .few; sets = λ j v l. a .sets j v l ∙ ap (λ (b : Bool). member j (getD old v 0) || (eqb j k && b)) (agree v (decLt u v) (decLt v m)) }
+  where
+    agree : (v : ℕ) → Dec (u < v) → Dec (v < m) → (ltb u v && (ltb v m && f v)) ≡ (ltb u v && (ltb v m && g v))
+    agree v (yes l) (yes r) = ap (λ (b : Bool). ltb u v && (ltb v m && b)) (h v l r)
+    agree v (yes l) (no r) = rw (le-ltb v m (omega arith)) refl
+    agree v (no l) d = rw (le-ltb u v (omega arith)) refl
+
+-- a test that nothing passes
+pub added-none : (f : ℕ → Bool) (k u m : ℕ) (old : List ℕ) → ((v : ℕ) → u < v → v < m → f v ≡ false) → Added f k u m old old
+added-none f k u m old h =
+    added-ext (λ v. false) f k u m old old (λ v l r. sym (h v l r))
+    (record { few = λ g. g; sets = λ j v l. sym (ap (λ (b : Bool). member j (getD old v 0) || (eqb j k && b)) (last (ltb u v) (ltb v m)) ∙ nothing (member j (getD old v 0)) (eqb j k)) })
+  where
+    last : (a b : Bool) → (a && (b && false)) ≡ false
+    last true true = refl
+    last true false = refl
+    last false b = refl
+
+    nothing : (a b : Bool) → (a || (b && false)) ≡ a
+    nothing true b = refl
+    nothing false true = refl
+    nothing false false = refl
+
+pub added-first : (f : ℕ → Bool) (k u : ℕ) (old : List ℕ) → Added f k u (u + 1) old old
+added-first f k u old = added-none f k u (u + 1) old (λ v l r. absurd (omega arith))
+
+pub added-end : (f : ℕ → Bool) (k u n v : ℕ) (old new : List ℕ) → v ≤ n → n ≤ v → Added f k u v old new → Added f k u n old new
+added-end f k u n v old new h l a = let e : v ≡ n = omega arith in rw e at a
+
+module _ (pattern states : List ℕ) (k u v : ℕ) (old l : List ℕ) (a : Added (reachesAt pattern k states) k u v old l) where
+  abbrev f : ℕ → Bool
+  f = reachesAt pattern k states
+
+  -- the turn of v
+  pub added-more : (new : List ℕ) → new ≡ markedIf (reachesAt pattern k states v) k v l → BeadIn pattern k → u < v → (n : ℕ) → n ≤ 1024 → v < n
+      → 1024 ≤ length l → Added (reachesAt pattern k states) k u (v + 1) old new
+  unfolding markedIf
+  added-more new e bead up n few low long = rw e (go (f v) refl)
+    where
+      inside : v < length l
+      inside = omega arith
+
+      same : (j w : ℕ) → (w ≡ v → ⊥) → (member j (getD old w 0) || (eqb j k && (ltb u w && (ltb w v && f w)))) ≡ (member j (getD old w 0) || (eqb j k && (ltb u w && (ltb w (v + 1) && f w))))
+      same j w n = ap (λ (b : Bool). member j (getD old w 0) || (eqb j k && (ltb u w && (b && f w)))) (sym (later w v n))
+
+      -- before the turn of v nothing was added to its set
+      before : (j : ℕ) → j < 16 → member j (getD l v 0) ≡ member j (getD old v 0)
+      before j h = a .sets j v h ∙ rw (le-ltb v v (omega arith)) (or-nothing (member j (getD old v 0)) (eqb j k) (ltb u v))
+
+      after : (j : ℕ) → (member j (getD old v 0) || (eqb j k && (ltb u v && (ltb v (v + 1) && f v)))) ≡ (member j (getD old v 0) || (eqb j k && f v))
+      after j = rw (lt-ltb u v up, lt-ltb v (v + 1) (omega arith)) refl
+
+      go : (b : Bool) → f v ≡ b → Added (reachesAt pattern k states) k u (v + 1) old (cond b (set l v (union 16 (getD l v 0) (singleton k))) l)
+      go false q = record { few = a .few; sets = λ j w h. one j w h (ℕ-discrete w v) }
+        where
+          unset : (c d : Bool) → (c || (d && false)) ≡ c
+          unset true d = refl
+          unset false true = refl
+          unset false false = refl
+
+          one : (j w : ℕ) → j < 16 → Dec (w ≡ v) → member j (getD l w 0) ≡ (member j (getD old w 0) || (eqb j k && (ltb u w && (ltb w (v + 1) && f w))))
+          one j w h (yes z) = rw z (before j h ∙ sym (after j ∙ ap (λ (c : Bool). member j (getD old v 0) || (eqb j k && c)) q ∙ unset (member j (getD old v 0)) (eqb j k)))
+          one j w h (no n) = a .sets j w h ∙ same j w n
+      go true q = record { few = λ g w. small g w (ℕ-discrete w v); sets = λ j w h. one j w h (ℕ-discrete w v) }
+        where
+          r : ℕ
+          r = union 16 (getD l v 0) (singleton k)
+
+          small : ((w : ℕ) → getD old w 0 < 65536) → (w : ℕ) → Dec (w ≡ v) → getD (set l v r) w 0 < 65536
+          small g w (yes z) = rw (z, getD-set-same l v r 0 inside) (union-below 16 (getD l v 0) (singleton k))
+          small g w (no n) = rw (getD-set-other l v w r 0 n) (a .few g w)
+
+          set-now : (c d : Bool) → (c || d) ≡ (c || (d && true))
+          set-now true d = refl
+          set-now false true = refl
+          set-now false false = refl
+
+          one : (j w : ℕ) → j < 16 → Dec (w ≡ v) → member j (getD (set l v r) w 0) ≡ (member j (getD old w 0) || (eqb j k && (ltb u w && (ltb w (v + 1) && f w))))
+          one j w h (yes z) =
+              rw z
+              (ap (member j) (getD-set-same l v r 0 inside) ∙ member-union 16 (getD l v 0) (singleton k) j h
+              ∙ rw (before j h, member-singleton j k) (set-now (member j (getD old v 0)) (eqb j k))
+              ∙ sym (after j ∙ ap (λ (c : Bool). member j (getD old v 0) || (eqb j k && c)) q))
+          one j w h (no n) = ap (member j) (getD-set-other l v w r 0 n) ∙ a .sets j w h ∙ same j w n
+
+pub ruleset reached-kit = (added-first, added-end, added-more)
