@@ -1,0 +1,44 @@
+//! The three C calls of `include/runin.h`, on slices.
+
+mod c {
+    extern "C" {
+        pub fn runin_read_pattern(text: *const u8, text_len: usize, pattern: *mut u16, pattern_len: usize) -> u64;
+        pub fn runin_read_log(text: *const u8, text_len: usize, label_count: u16, log: *mut u16, log_len: usize) -> u64;
+        pub fn runin_judge(
+            pattern: *const u16,
+            pattern_len: usize,
+            log: *const u16,
+            log_len: usize,
+            result: *mut u16,
+            result_len: usize,
+            work: *mut u16,
+            work_len: usize,
+        ) -> u64;
+    }
+}
+
+// SAFETY of all three: a slice's pointer is valid and aligned for its length (also where that is 0), and slices that are borrowed mutably
+// overlap no other. This is all that the header asks.
+
+pub fn read_pattern(text: &[u8], pattern: &mut [u16]) -> u64 {
+    unsafe { c::runin_read_pattern(text.as_ptr(), text.len(), pattern.as_mut_ptr(), pattern.len()) }
+}
+
+pub fn read_log(text: &[u8], label_count: u16, log: &mut [u16]) -> u64 {
+    unsafe { c::runin_read_log(text.as_ptr(), text.len(), label_count, log.as_mut_ptr(), log.len()) }
+}
+
+pub fn judge(pattern: &[u16], log: &[u16], result: &mut [u16], work: &mut [u16]) -> u64 {
+    unsafe {
+        c::runin_judge(
+            pattern.as_ptr(),
+            pattern.len(),
+            log.as_ptr(),
+            log.len(),
+            result.as_mut_ptr(),
+            result.len(),
+            work.as_mut_ptr(),
+            work.len(),
+        )
+    }
+}

@@ -1,0 +1,26 @@
+//! Compares the library's three calls with a reference that is written from the definitions alone. README.md says what is tried.
+
+mod compare;
+mod damage;
+mod generate;
+mod judge;
+mod library;
+mod log;
+mod pattern;
+mod random;
+mod tally;
+mod text;
+mod trials;
+
+use std::process::ExitCode;
+
+fn main() -> ExitCode {
+    let reference_is_right = trials::listing() & trials::readings_written_out(4_000);
+    let tally = trials::all();
+    let library_agrees = tally.report();
+    if reference_is_right && library_agrees {
+        ExitCode::SUCCESS
+    } else {
+        ExitCode::FAILURE
+    }
+}
