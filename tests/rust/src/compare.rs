@@ -29,11 +29,7 @@ impl Lent {
         Lent { as_lent: all.clone(), all, length }
     }
 
-    fn part(&self) -> &[u16] {
-        &self.all[MARGIN..MARGIN + self.length]
-    }
-
-    fn part_mut(&mut self) -> &mut [u16] {
+    fn part(&mut self) -> &mut [u16] {
         &mut self.all[MARGIN..MARGIN + self.length]
     }
 
@@ -61,8 +57,8 @@ impl Comparison {
     pub fn read_pattern(&mut self, text: &[u8], length: usize) {
         let expected = if length < pattern::LENGTH { refuse(2, 0) } else { pattern::read(text) };
         let mut lent = Lent::new(&mut self.noise, &[], length);
-        let lent_text = text.to_vec();
-        let answer = library::read_pattern(&lent_text, lent.part_mut());
+        let mut lent_text = text.to_vec();
+        let answer = library::read_pattern(&mut lent_text, lent.part());
         let kept = lent_text == text
             && match &expected {
                 Ok(pattern) => lent.became(&pattern.buffer()),
@@ -81,8 +77,8 @@ impl Comparison {
             log::read(text, label_count)
         };
         let mut lent = Lent::new(&mut self.noise, &[], length);
-        let lent_text = text.to_vec();
-        let answer = library::read_log(&lent_text, label_count, lent.part_mut());
+        let mut lent_text = text.to_vec();
+        let answer = library::read_log(&mut lent_text, label_count, lent.part());
         let kept = lent_text == text
             && match &expected {
                 Ok(log) => lent.became(&log.buffer()),
@@ -96,11 +92,11 @@ impl Comparison {
     pub fn judge(&mut self, pattern: &[u16], log: &[u16], lengths: [usize; 4]) {
         let expected = judged(pattern, log, lengths);
         let [log_length, pattern_length, result_length, work_length] = lengths;
-        let lent_pattern = Lent::new(&mut self.noise, pattern, pattern_length);
-        let lent_log = Lent::new(&mut self.noise, log, log_length);
+        let mut lent_pattern = Lent::new(&mut self.noise, pattern, pattern_length);
+        let mut lent_log = Lent::new(&mut self.noise, log, log_length);
         let mut result = Lent::new(&mut self.noise, &[], result_length);
         let mut work = Lent::new(&mut self.noise, &[], work_length);
-        let answer = library::judge(lent_pattern.part(), lent_log.part(), result.part_mut(), work.part_mut());
+        let answer = library::judge(lent_pattern.part(), lent_log.part(), result.part(), work.part());
         let kept = lent_pattern.unchanged()
             && lent_log.unchanged()
             && match &expected {

@@ -18,27 +18,19 @@ mod c {
 }
 
 // SAFETY of all three: a slice's pointer is valid and aligned for its length (also where that is 0), and slices that are borrowed mutably
-// overlap no other. This is all that the header asks.
+// overlap no other. This is all that the header asks. What is only read is borrowed mutably too: of a shared slice the compiler may take for
+// granted what is to be found out, that it stays as it was.
 
-pub fn read_pattern(text: &[u8], pattern: &mut [u16]) -> u64 {
-    unsafe { c::runin_read_pattern(text.as_ptr(), text.len(), pattern.as_mut_ptr(), pattern.len()) }
+pub fn read_pattern(text: &mut [u8], pattern: &mut [u16]) -> u64 {
+    unsafe { c::runin_read_pattern(text.as_mut_ptr(), text.len(), pattern.as_mut_ptr(), pattern.len()) }
 }
 
-pub fn read_log(text: &[u8], label_count: u16, log: &mut [u16]) -> u64 {
-    unsafe { c::runin_read_log(text.as_ptr(), text.len(), label_count, log.as_mut_ptr(), log.len()) }
+pub fn read_log(text: &mut [u8], label_count: u16, log: &mut [u16]) -> u64 {
+    unsafe { c::runin_read_log(text.as_mut_ptr(), text.len(), label_count, log.as_mut_ptr(), log.len()) }
 }
 
-pub fn judge(pattern: &[u16], log: &[u16], result: &mut [u16], work: &mut [u16]) -> u64 {
-    unsafe {
-        c::runin_judge(
-            pattern.as_ptr(),
-            pattern.len(),
-            log.as_ptr(),
-            log.len(),
-            result.as_mut_ptr(),
-            result.len(),
-            work.as_mut_ptr(),
-            work.len(),
-        )
-    }
+pub fn judge(pattern: &mut [u16], log: &mut [u16], result: &mut [u16], work: &mut [u16]) -> u64 {
+    let (pattern_len, log_len, result_len, work_len) = (pattern.len(), log.len(), result.len(), work.len());
+    let (pattern, log, result, work) = (pattern.as_mut_ptr(), log.as_mut_ptr(), result.as_mut_ptr(), work.as_mut_ptr());
+    unsafe { c::runin_judge(pattern, pattern_len, log, log_len, result, result_len, work, work_len) }
 }
