@@ -121,8 +121,8 @@ impl Comparison {
             // The first few are enough to look into.
             if self.tally.differences <= 5 {
                 let (n, l, c) = (answer >> 32, answer >> 16 & 0xffff, answer & 0xffff);
-                println!("DIFFERENCE in {call}: number {number} line {line} count {count} expected, {n} {l} {c} given, buffers as expected: {kept}");
-                println!("  {}", input());
+                println!("DIFFERENCE in {call}: {number} line {line} count {count} expected, {n} line {l} count {c} given");
+                println!("  buffers as expected: {kept}; {}", input());
             }
         }
     }

@@ -18,8 +18,8 @@ mod c {
 }
 
 // SAFETY of all three: a slice's pointer is valid and aligned for its length (also where that is 0), and slices that are borrowed mutably
-// overlap no other. This is all that the header asks. What is only read is borrowed mutably too: of a shared slice the compiler may take for
-// granted what is to be found out, that it stays as it was.
+// overlap no other. This is all that the header asks. What is only read is borrowed mutably too: of a shared slice the compiler may take
+// for granted what is to be found out, that it stays as it was.
 
 pub fn read_pattern(text: &mut [u8], pattern: &mut [u16]) -> u64 {
     unsafe { c::runin_read_pattern(text.as_mut_ptr(), text.len(), pattern.as_mut_ptr(), pattern.len()) }

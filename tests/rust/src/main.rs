@@ -1,4 +1,4 @@
-//! Compares the library's three calls with a reference that is written from the definitions alone. README.md says what is tried.
+//! Compares the library's three calls with a reference that shares no code with it. README.md says what is tried.
 
 mod compare;
 mod damage;

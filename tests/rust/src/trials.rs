@@ -77,22 +77,22 @@ struct Trials {
 }
 
 impl Trials {
-    fn pattern_texts(&mut self, times: usize, what: &str, damages: usize, make: fn(&mut Random) -> Pattern) {
+    fn pattern_texts(&mut self, times: usize, what: &str, most_damages: usize, make: fn(&mut Random) -> Pattern) {
         let random = &mut self.random;
         for _ in 0..times {
             let pattern = make(random);
-            let text = pattern_text(random, &pattern, damages);
+            let text = pattern_text(random, &pattern, most_damages);
             self.comparison.read_pattern(&text, roomy(random, pattern::LENGTH));
         }
         println!("pattern texts {what}: {times}");
     }
 
-    fn log_texts(&mut self, times: usize, what: &str, damages: usize, make: fn(&mut Random, usize) -> Log) {
+    fn log_texts(&mut self, times: usize, what: &str, most_damages: usize, make: fn(&mut Random, usize) -> Log) {
         let random = &mut self.random;
         for _ in 0..times {
             let labels = random.within(1, 16);
             let log = make(random, labels);
-            let text = log_text(random, &log, damages);
+            let text = log_text(random, &log, most_damages);
             self.comparison.read_log(&text, labels as u16, roomy(random, log::LENGTH));
         }
         println!("log texts {what}: {times}");
@@ -130,7 +130,7 @@ impl Trials {
         println!("judgings of damaged buffers: {times}, of them still what some texts give: {still}");
     }
 
-    /// Buffers that are often short and label counts that are often out of range, over sound and damaged input: the order of refusals shows.
+    /// Buffers often short and label counts often out of range, over sound and damaged input: the order of refusals shows.
     fn lengths_and_label_counts(&mut self, times: usize) {
         let random = &mut self.random;
         for _ in 0..times {
@@ -155,19 +155,19 @@ impl Trials {
     }
 }
 
-fn pattern_text(random: &mut Random, pattern: &Pattern, damages: usize) -> Vec<u8> {
+fn pattern_text(random: &mut Random, pattern: &Pattern, most_damages: usize) -> Vec<u8> {
     let names = generate::names(random, pattern.labels);
-    damaged(random, pattern.text(&names), damages, pattern::MOST_BYTES)
+    damaged(random, pattern.text(&names), most_damages, pattern::MOST_BYTES)
 }
 
-fn log_text(random: &mut Random, log: &Log, damages: usize) -> Vec<u8> {
+fn log_text(random: &mut Random, log: &Log, most_damages: usize) -> Vec<u8> {
     let order = generate::order(random);
-    damaged(random, log.text(order), damages, log::MOST_BYTES)
+    damaged(random, log.text(order), most_damages, log::MOST_BYTES)
 }
 
-/// The text with so many damages at most, and at least one if any.
-fn damaged(random: &mut Random, mut text: Vec<u8>, damages: usize, limit: usize) -> Vec<u8> {
-    let times = random.within(damages.min(1), damages);
+/// The text with so many damages at most, and at least one unless that is 0.
+fn damaged(random: &mut Random, mut text: Vec<u8>, most_damages: usize, limit: usize) -> Vec<u8> {
+    let times = random.within(most_damages.min(1), most_damages);
     for _ in 0..times {
         text = damage::text(random, &text, limit);
     }
