@@ -1,0 +1,53 @@
+/* What the files of the benchmark share: the three jobs under other names, the inputs, the measuring. */
+#ifndef BENCH_H
+#define BENCH_H
+
+#include "../include/runin.h"
+
+enum { MOST_STEPS = 1024, MOST_LINKS = 4096, MOST_BEADS = 8, MOST_STATES = 16, MOST_LABELS = 16, MOST_LINE = 240 };
+
+/* Places in the pattern buffer and in the log buffer. */
+enum { RULES = 2, STATE_COUNTS = 10, FINALS = 18, NEXTS = 26 };
+enum { LABELS = 1, BOARDS = 1025, BEGINS = 2049, LINKS = 3074 };
+enum { SOME = 1, ALL = 2 };
+
+typedef uint64_t pattern_reader(const uint8_t *text, size_t text_len, uint16_t *pattern, size_t pattern_len);
+typedef uint64_t log_reader(const uint8_t *text, size_t text_len, uint16_t label_count, uint16_t *log, size_t log_len);
+typedef uint64_t judge(const uint16_t *pattern, size_t pattern_len, const uint16_t *log, size_t log_len,
+                       uint16_t *result, size_t result_len, uint16_t *work, size_t work_len);
+
+/* reader.c: the plain readers. */
+pattern_reader plain_read_pattern;
+log_reader plain_read_log;
+
+/* same.c: the library's algorithm. rr2838.c: the procedure of RR-2838. */
+judge same_judge;
+judge rr2838_judge;
+
+/* buffers.c: the host's faults, 1 to 7, for both judges above: 0 where there is none. */
+unsigned buffers_refused(const uint16_t *pattern, size_t pattern_len, const uint16_t *log, size_t log_len,
+                         size_t result_len, size_t work_len);
+
+static inline uint64_t answer(uint64_t number, uint64_t line, uint64_t count) {
+    return number << 32 | line << 16 | count;
+}
+
+/* inputs.c: a pattern's text and a log's text. */
+struct input {
+    char name[40];
+    size_t pattern_len, log_len;
+    uint8_t pattern[16384], log[65535];
+};
+
+enum { SHAPES = 7, SWEEP = 5 };
+void make_shape(int index, struct input *input);
+void make_sweep(int index, struct input *input);
+void make_random(uint64_t seed, struct input *input);
+uint64_t draw(uint64_t *seed, uint64_t below);
+
+/* measure.c: CPU time of this process in seconds, the median, and the most stack that a call uses. */
+double cpu_seconds(void);
+double median(double *values, int count);
+size_t peak_stack(void (*call)(void));
+
+#endif

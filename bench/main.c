@@ -1,0 +1,234 @@
+/* The benchmark: the library against the same jobs written in C. First all answers and buffers are compared, then times and stacks are
+ * measured and printed with the ratios library/(a) and library/(b).
+ *
+ * `bench` does all. `bench once SHAPE JOB WHO` makes one call only, for a tool that counts instructions. */
+#include "bench.h"
+
+#include <math.h>
+#include <stdio.h>
+#include <stdlib.h>
+#include <string.h>
+
+enum { LIBRARY, PAPER, SAME, MAKERS };
+enum { READ_PATTERN, READ_LOG, JUDGE, JOBS };
+static const char *const jobs[JOBS] = {"read pattern", "read log", "judge"};
+
+static pattern_reader *const pattern_readers[MAKERS] = {runin_read_pattern, 0, plain_read_pattern};
+static log_reader *const log_readers[MAKERS] = {runin_read_log, 0, plain_read_log};
+static judge *const judges[MAKERS] = {runin_judge, rr2838_judge, same_judge};
+
+/* Buffers with some numbers past their documented lengths, which no call may touch. */
+enum { PAST = 16 };
+struct buffers {
+    uint16_t pattern[RUNIN_PATTERN_LENGTH + PAST], log[RUNIN_LOG_LENGTH + PAST];
+    uint16_t result[RUNIN_RESULT_LENGTH + PAST], work[RUNIN_WORK_LENGTH + PAST];
+    uint64_t answers[JOBS];
+};
+static struct buffers rooms[MAKERS];
+static struct input input;
+
+static int has(int maker, int job) {
+    return job == JUDGE || maker != PAPER;
+}
+
+static void call(int maker, int job) {
+    struct buffers *b = &rooms[maker];
+    if (job == READ_PATTERN) {
+        b->answers[job] = pattern_readers[maker](input.pattern, input.pattern_len, b->pattern, sizeof b->pattern / 2);
+    } else if (job == READ_LOG) {
+        b->answers[job] = log_readers[maker](input.log, input.log_len, b->pattern[0], b->log, sizeof b->log / 2);
+    } else {
+        b->answers[job] = judges[maker](b->pattern, sizeof b->pattern / 2, b->log, sizeof b->log / 2,
+                                        b->result, sizeof b->result / 2, b->work, sizeof b->work / 2);
+    }
+}
+
+/* Comparing. */
+
+static long compared, refused[JOBS], held;
+
+static void must_be_equal(int job) {
+    for (int maker = PAPER; maker < MAKERS; maker++) {
+        if (memcmp(&rooms[LIBRARY], &rooms[maker], sizeof rooms[maker]) != 0) {
+            printf("%s differs: %s; library %llx, %s %llx\n", jobs[job], input.name, (unsigned long long)rooms[LIBRARY].answers[job],
+                   maker == PAPER ? "(a)" : "(b)", (unsigned long long)rooms[maker].answers[job]);
+            exit(1);
+        }
+    }
+    compared++;
+    if (RUNIN_NUMBER(rooms[LIBRARY].answers[job])) refused[job]++;
+    else if (job == JUDGE) held += RUNIN_COUNT(rooms[LIBRARY].answers[job]);
+}
+
+static void compare_job(int job) {
+    for (int maker = 0; maker < MAKERS; maker++) {
+        if (has(maker, job)) call(maker, job);
+    }
+    /* The paper has no readers: its judge gets what the plain ones read. */
+    if (job != JUDGE) rooms[PAPER] = rooms[SAME];
+    must_be_equal(job);
+}
+
+/* The three jobs on the input, from buffers that hold anything. */
+static void compare_input(void) {
+    for (size_t i = 0; i < sizeof rooms[0]; i++) ((uint8_t *)&rooms[0])[i] = i * 37 + 11;
+    for (int maker = 1; maker < MAKERS; maker++) rooms[maker] = rooms[0];
+    for (int job = 0; job < JOBS; job++) compare_job(job);
+}
+
+/* Changes some bytes of a text, most of them to ones that mean something. */
+static void damage(uint8_t *text, size_t *len, uint64_t *seed) {
+    static const char bytes[] = "0123456789 ,-\nSA\r~\x7f";
+    for (int i = draw(seed, 3); i > 0; i--) text[draw(seed, *len)] = bytes[draw(seed, sizeof bytes - 1)];
+    if (draw(seed, 8) == 0) *len = draw(seed, *len + 1);
+}
+
+/* Small inputs, sound and damaged; then the judge again with one number of a buffer changed. */
+static void compare_random(int count) {
+    for (int i = 1; i <= count; i++) {
+        uint64_t seed = i * 7919;
+        make_random(i, &input);
+        if (i % 4 == 1) damage(input.pattern, &input.pattern_len, &seed);
+        if (i % 4 == 2) damage(input.log, &input.log_len, &seed);
+        compare_input();
+        if (i % 4 == 3) {
+            size_t place = draw(&seed, 2) ? draw(&seed, 40) : draw(&seed, RUNIN_PATTERN_LENGTH);
+            size_t other = draw(&seed, 4) * 1024 + draw(&seed, 40);
+            uint16_t value = draw(&seed, 2) ? draw(&seed, 4) : draw(&seed, 65536);
+            for (int maker = 0; maker < MAKERS; maker++) {
+                if (i % 8 == 3) rooms[maker].pattern[place] = value;
+                else rooms[maker].log[other] = value;
+            }
+            compare_job(JUDGE);
+        }
+    }
+}
+
+/* Measuring. */
+
+static int stack_maker, stack_job;
+static void no_call(void) {}
+static void stack_call(void) { call(stack_maker, stack_job); }
+
+static size_t stack_of(int maker, int job) {
+    stack_maker = maker;
+    stack_job = job;
+    return peak_stack(stack_call) - peak_stack(no_call);
+}
+
+/* The median time of a call in seconds, for each maker: rounds in turn, so that a disturbance meets all of them. */
+static void time_job(int job, double budget, double *seconds) {
+    enum { MOST = 25, FEWEST = 5 };
+    double samples[MAKERS][MOST], begin = cpu_seconds();
+    int batch = 1, round = 0;
+    call(LIBRARY, job);
+    while (batch < 4096 && (cpu_seconds() - begin) * batch < 1e-3) batch *= 2;
+    for (begin = cpu_seconds(); round < MOST && (round < FEWEST || cpu_seconds() - begin < budget); round++) {
+        for (int maker = 0; maker < MAKERS; maker++) {
+            if (!has(maker, job)) continue;
+            double from = cpu_seconds();
+            for (int i = 0; i < batch; i++) call(maker, job);
+            samples[maker][round] = (cpu_seconds() - from) / batch;
+        }
+    }
+    for (int maker = 0; maker < MAKERS; maker++) seconds[maker] = has(maker, job) ? median(samples[maker], round) : 0;
+}
+
+static double worst[JOBS], logs_of_paper;
+static size_t most_stack[JOBS];
+
+static void table_head(void) {
+    printf("%-24s %-12s %11s %11s %11s %8s %8s  %s\n", "shape", "job", "library us", "(a) us", "(b) us", "lib/(a)", "lib/(b)",
+           "stack: library, (a), (b)");
+}
+
+static double measure(int job, double budget) {
+    double t[MAKERS];
+    time_job(job, budget, t);
+    printf("%-24s %-12s %11.1f ", input.name, jobs[job], t[LIBRARY] * 1e6);
+    if (job == JUDGE) printf("%11.1f %11.1f %8.2f", t[PAPER] * 1e6, t[SAME] * 1e6, t[LIBRARY] / t[PAPER]);
+    else printf("%11s %11.1f %8s", "-", t[SAME] * 1e6, "-");
+    printf(" %8.2f  ", t[LIBRARY] / t[SAME]);
+    for (int maker = 0; maker < MAKERS; maker++) {
+        if (!has(maker, job)) {
+            printf("%7s", "-");
+            continue;
+        }
+        size_t stack = stack_of(maker, job);
+        printf("%7zu", stack);
+        if (maker == LIBRARY && stack > most_stack[job]) most_stack[job] = stack;
+    }
+    printf("\n");
+    fflush(stdout);
+    if (t[LIBRARY] / t[SAME] > worst[job]) worst[job] = t[LIBRARY] / t[SAME];
+    return t[LIBRARY] / t[PAPER];
+}
+
+static const char *met(int yes) {
+    return yes ? "met" : "missed";
+}
+
+static void measure_shapes(void) {
+    table_head();
+    for (int i = 0; i < SHAPES; i++) {
+        make_shape(i, &input);
+        compare_input();
+        for (int job = 0; job < JOBS; job++) {
+            double ratio = measure(job, job == JUDGE ? 4 : 0.4);
+            if (job == JUDGE) logs_of_paper += log(ratio) / SHAPES;
+        }
+    }
+}
+
+static void measure_sweep(void) {
+    printf("\nThe sweep: late pivots with ALL first, four links a step\n");
+    table_head();
+    for (int i = 0; i < SWEEP; i++) {
+        make_sweep(i, &input);
+        compare_input();
+        measure(JUDGE, 2);
+    }
+}
+
+static void print_aims(void) {
+    printf("\nAims\n");
+    for (int job = 0; job < JOBS; job++) {
+        printf("%-12s at most 1.30 times (b): worst %.2f, %s\n", jobs[job], worst[job], met(worst[job] <= 1.3));
+    }
+    double faster = exp(-logs_of_paper);
+    printf("%-12s at least 4 times faster than (a), geometric mean over the shapes: %.2f times, %s\n", jobs[JUDGE], faster, met(faster >= 4));
+    for (int job = 0; job < JOBS; job++) {
+        printf("%-12s under 65536 bytes of stack: at most %zu, %s\n", jobs[job], most_stack[job], met(most_stack[job] < 65536));
+    }
+}
+
+static int once(int shape, int job, int maker) {
+    if (shape < 0 || shape >= SHAPES || job < 0 || job >= JOBS || maker < 0 || maker >= MAKERS || !has(maker, job)) return 1;
+    make_shape(shape, &input);
+    rooms[maker].answers[READ_PATTERN] = plain_read_pattern(input.pattern, input.pattern_len, rooms[maker].pattern, RUNIN_PATTERN_LENGTH);
+    if (job == JUDGE) plain_read_log(input.log, input.log_len, rooms[maker].pattern[0], rooms[maker].log, RUNIN_LOG_LENGTH);
+    call(maker, job);
+    return 0;
+}
+
+int main(int argc, char **argv) {
+    if (argc == 5) return once(atoi(argv[2]), atoi(argv[3]), atoi(argv[4]));
+    int random = 4000;
+    compare_random(random);
+    for (int i = 0; i < SHAPES; i++) {
+        make_shape(i, &input);
+        compare_input();
+        if (RUNIN_NUMBER(rooms[LIBRARY].answers[JUDGE])) {
+            printf("refused: %s\n", input.name);
+            return 1;
+        }
+        printf("%-24s %5zu bytes of pattern, %5zu of log; the whole pattern holds at %u of %u steps\n", input.name, input.pattern_len,
+               input.log_len, RUNIN_COUNT(rooms[LIBRARY].answers[JUDGE]), rooms[LIBRARY].log[0]);
+    }
+    printf("Equal in all answers and buffers: %ld calls, on %d random inputs and all shapes; refused among them: %ld patterns, %ld logs, "
+           "%ld judgings; held at %ld steps\n\n", compared, random, refused[READ_PATTERN], refused[READ_LOG], refused[JUDGE], held);
+    measure_shapes();
+    measure_sweep();
+    print_aims();
+    return 0;
+}

@@ -1,0 +1,89 @@
+/* The judge by the procedure of RR-2838 (Hurfin, Raynal: Detecting Diamond Necklaces in Labeled Dags), written straightforwardly.
+ *
+ * Steps are visited in their order. start_states[v][k][u] is the set of the states in which a copy of automaton k, started at u, can be
+ * after a reading of some route from u to v; at u = v it is the start of a copy launched there. Where the paper's Figure 3 and document 01
+ * differ, document 01 is followed: a route has at least one link, so a copy is not tested in the visit that launches it; ALL asks for a
+ * route; a step without labels leaves the states as they are; each pivot is the smallest that serves. */
+#include "bench.h"
+
+#include <string.h>
+
+static uint16_t start_states[MOST_STEPS][MOST_BEADS][MOST_STEPS];
+
+/* The states after entering a step with these labels, from one of the states. */
+static uint16_t entered(const uint16_t *next, unsigned labels, unsigned states) {
+    if (labels == 0) return states;
+    uint16_t all = 0;
+    for (unsigned qs = states; qs; qs &= qs - 1) {
+        const uint16_t *row = next + 16 * __builtin_ctz(qs);
+        for (unsigned as = labels; as; as &= as - 1) all |= row[__builtin_ctz(as)];
+    }
+    return all;
+}
+
+/* Lines 1 to 5: the copies launched in the past of v go on. */
+static void recognize(const uint16_t *pattern, const uint16_t *log, unsigned v, unsigned k) {
+    uint16_t *here = start_states[v][k];
+    memset(here, 0, (v + 1) * sizeof *here);
+    for (unsigned i = log[BEGINS + v]; i < log[BEGINS + v + 1]; i++) {
+        unsigned p = log[LINKS + i];
+        const uint16_t *there = start_states[p][k];
+        for (unsigned u = 0; u <= p; u++) {
+            if (there[u]) here[u] |= entered(pattern + NEXTS + 256 * k, log[LABELS + v], there[u]);
+        }
+    }
+}
+
+/* The smallest u whose copy of automaton k recognizes at v, or v where there is none: the tests of lines 6 and 8. */
+static unsigned recognized(const uint16_t *pattern, unsigned v, unsigned k) {
+    const uint16_t *here = start_states[v][k];
+    unsigned final = pattern[FINALS + k], u = 0;
+    if (pattern[RULES + k] == ALL) {
+        while (u < v && !(here[u] && !(here[u] & ~final))) u++;
+    } else {
+        while (u < v && !(here[u] & final)) u++;
+    }
+    return u;
+}
+
+/* One visit; the set of prefixes that hold at v. */
+static uint16_t visit(const uint16_t *pattern, const uint16_t *log, unsigned v) {
+    unsigned beads = pattern[1];
+    uint16_t prefixes = 0;
+    for (unsigned k = 0; k < beads; k++) recognize(pattern, log, v, k);
+    if (v == 0) start_states[0][0][0] = 1;
+    for (unsigned k = 0; k < beads; k++) {
+        if (recognized(pattern, v, k) == v) continue;
+        prefixes |= 1u << k;
+        /* Lines 7 and 9: a copy of the next automaton starts here. */
+        if (k + 1 < beads) start_states[v][k + 1][v] = 1;
+    }
+    return prefixes;
+}
+
+static void write_pivots(const uint16_t *pattern, unsigned v, uint16_t *row) {
+    unsigned beads = pattern[1], p = v;
+    row[1 + beads] = v;
+    for (unsigned k = beads; k-- > 0;) {
+        p = recognized(pattern, p, k);
+        row[1 + k] = p;
+    }
+}
+
+uint64_t rr2838_judge(const uint16_t *pattern, size_t pattern_len, const uint16_t *log, size_t log_len,
+                      uint16_t *result, size_t result_len, uint16_t *work, size_t work_len) {
+    unsigned number = buffers_refused(pattern, pattern_len, log, log_len, result_len, work_len);
+    if (number) return answer(number, 0, 0);
+    unsigned count = 0;
+    memset(result, 0, RUNIN_RESULT_LENGTH * sizeof *result);
+    memset(work, 0, RUNIN_WORK_LENGTH * sizeof *work);
+    for (unsigned v = 0; v < log[0]; v++) {
+        uint16_t *row = result + RUNIN_ROW_LENGTH * v;
+        row[0] = visit(pattern, log, v);
+        if (row[0] >> (pattern[1] - 1) & 1) {
+            write_pivots(pattern, v, row);
+            count++;
+        }
+    }
+    return answer(0, 0, count);
+}
