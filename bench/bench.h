@@ -20,11 +20,12 @@ typedef uint64_t judge(const uint16_t *pattern, size_t pattern_len, const uint16
 pattern_reader plain_read_pattern;
 log_reader plain_read_log;
 
-/* same.c: the library's algorithm. rr2838.c: the procedure of RR-2838. */
+/* same.c: the library's algorithm. rr2838.c: the procedure of RR-2838, straightforward and tuned. */
 judge same_judge;
 judge rr2838_judge;
+judge rr2838_tuned_judge;
 
-/* buffers.c: the host's faults, 1 to 7, for both judges above: 0 where there is none. */
+/* buffers.c: the host's faults, 1 to 7, for all judges above: 0 where there is none. */
 unsigned buffers_refused(const uint16_t *pattern, size_t pattern_len, const uint16_t *log, size_t log_len,
                          size_t result_len, size_t work_len);
 

@@ -33,19 +33,21 @@ static void fill_table(struct judging *j, unsigned bead) {
 static unsigned pull(const uint16_t *row, unsigned set) {
     unsigned all = 0;
     for (unsigned q = 0; q < MOST_STATES; q++) {
-        if (row[q] & set) all |= 1u << q;
+        all |= (unsigned)((row[q] & set) != 0) << q;
     }
     return all;
 }
 
 /* For each step below the target the states from which some reading of some route to the target ends in the goal. */
-static void backward_pass(const struct judging *j, unsigned target, uint16_t goal, uint16_t *states) {
+static void backward_pass(const struct judging *j, unsigned target, uint16_t goal, uint16_t *restrict states) {
+    const uint16_t *restrict log = j->log, *restrict table = j->table;
     memset(states, 0, MOST_STEPS * sizeof *states);
     states[target] = goal;
     for (unsigned x = target; x > 0; x--) {
-        if (states[x] == 0) continue;
-        unsigned before = pull(j->table + 16 * x, states[x]);
-        for (unsigned i = j->log[BEGINS + x]; i < j->log[BEGINS + x + 1]; i++) states[j->log[LINKS + i]] |= before;
+        unsigned here = states[x];
+        if (here == 0) continue;
+        unsigned before = pull(table + 16 * x, here), end = log[BEGINS + x + 1];
+        for (unsigned i = log[BEGINS + x]; i < end; i++) states[log[LINKS + i]] |= before;
     }
 }
 
