@@ -47,7 +47,7 @@ static void call(int maker, int job) {
 
 /* Comparing. */
 
-static long compared, refused[JOBS], held;
+static long compared, by_number[32], held;
 
 static void must_be_equal(int job) {
     for (int maker = PAPER; maker < MAKERS; maker++) {
@@ -58,8 +58,9 @@ static void must_be_equal(int job) {
         }
     }
     compared++;
-    if (RUNIN_NUMBER(rooms[LIBRARY].answers[job])) refused[job]++;
-    else if (job == JUDGE) held += RUNIN_COUNT(rooms[LIBRARY].answers[job]);
+    uint64_t answer = rooms[LIBRARY].answers[job];
+    by_number[RUNIN_NUMBER(answer)]++;
+    if (job == JUDGE) held += RUNIN_COUNT(answer);
 }
 
 static void compare_job(int job) {
@@ -239,8 +240,12 @@ int main(int argc, char **argv) {
         printf("%-24s %5zu bytes of pattern, %5zu of log; the whole pattern holds at %u of %u steps\n", input.name, input.pattern_len,
                input.log_len, RUNIN_COUNT(rooms[LIBRARY].answers[JUDGE]), rooms[LIBRARY].log[0]);
     }
-    printf("Equal in all answers and buffers: %ld calls, on %d random inputs and all shapes; refused among them: %ld patterns, %ld logs, "
-           "%ld judgings; held at %ld steps\n\n", compared, random, refused[READ_PATTERN], refused[READ_LOG], refused[JUDGE], held);
+    printf("Equal in all answers and buffers: %ld calls, on %d random inputs and all shapes; the whole pattern held at %ld steps\nAnswers:", compared,
+           random, held);
+    for (int number = 0; number < 32; number++) {
+        if (by_number[number]) printf("%s %ld of %d", number ? "," : "", by_number[number], number);
+    }
+    printf("\n\n");
     measure_shapes();
     measure_sweep();
     print_aims();
