@@ -220,7 +220,8 @@ static void print_aims(void) {
 static int once(int shape, int job, int maker) {
     if (shape < 0 || shape >= SHAPES || job < 0 || job >= JOBS || maker < 0 || maker >= MAKERS || !has(maker, job)) return 1;
     make_shape(shape, &input);
-    rooms[maker].answers[READ_PATTERN] = plain_read_pattern(input.pattern, input.pattern_len, rooms[maker].pattern, RUNIN_PATTERN_LENGTH);
+    /* Only what the job needs, so that the counted function is called once. */
+    if (job != READ_PATTERN) plain_read_pattern(input.pattern, input.pattern_len, rooms[maker].pattern, RUNIN_PATTERN_LENGTH);
     if (job == JUDGE) plain_read_log(input.log, input.log_len, rooms[maker].pattern[0], rooms[maker].log, RUNIN_LOG_LENGTH);
     call(maker, job);
     return 0;
