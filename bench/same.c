@@ -1,5 +1,6 @@
-/* The judge by the library's algorithm, written by hand in C: the step table of a bead, backward passes from a target, the phase of the
- * prefixes and the walk back to the pivots, in the same order, with the same work skipped. */
+/* The judge by the library's algorithm, written by hand in C: the step table of a bead, the phase of the prefixes by forward passes from the
+ * steps at which the earlier beads hold, and the walk back to the pivots by backward passes from a target, in the same order, with the
+ * same work skipped. */
 #include "bench.h"
 
 #include <string.h>
@@ -84,11 +85,44 @@ static unsigned first_flag(const struct judging *j, unsigned below) {
     return u;
 }
 
+/* The states that entering a step reaches from the set; by the step's part of the table. */
+static unsigned entered(const uint16_t *row, unsigned set) {
+    unsigned all = 0;
+    for (unsigned q = 0; q < MOST_STATES; q++) {
+        if (set >> q & 1) all |= row[q];
+    }
+    return all;
+}
+
+/* For each step after u the states that some reading of some route from u reaches. */
+static void forward_pass(const struct judging *j, unsigned u, uint16_t *restrict states) {
+    const uint16_t *restrict log = j->log, *restrict table = j->table;
+    memset(states, 0, MOST_STEPS * sizeof *states);
+    states[u] = 1;
+    for (unsigned x = u + 1; x < j->steps; x++) {
+        unsigned before = 0, end = log[BEGINS + x + 1];
+        for (unsigned i = log[BEGINS + x]; i < end; i++) before |= states[log[LINKS + i]];
+        states[x] = before ? entered(table + 16 * x, before) : 0;
+    }
+}
+
+/* Does the bead hold on a step with this set in the forward pass? */
+static int reaches(const struct judging *j, unsigned bead, unsigned set) {
+    unsigned final = j->pattern[FINALS + bead];
+    if (j->pattern[RULES + bead] == ALL) return (set & final) && !(set & ~final);
+    return (set & final) != 0;
+}
+
 static void mark_prefixes(struct judging *j) {
+    uint16_t states[MOST_STEPS];
     for (unsigned k = 0; k < j->beads; k++) {
-        for (unsigned v = 0; v < j->steps; v++) {
-            serving(j, k, v);
-            if (first_flag(j, v) < v) j->prefixes[v] |= 1u << k;
+        fill_table(j, k);
+        for (unsigned u = 0; u < j->steps; u++) {
+            if (!prefix_at(j, k, u)) continue;
+            forward_pass(j, u, states);
+            for (unsigned v = u + 1; v < j->steps; v++) {
+                if (reaches(j, k, states[v])) j->prefixes[v] |= 1u << k;
+            }
         }
     }
 }
