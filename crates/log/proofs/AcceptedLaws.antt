@@ -12,9 +12,9 @@ use Rattle.text.specs.Split.{split}
 use Rattle.text.specs.Lines.{TextLine, linesOf, whole}
 use Rattle.text.specs.Walk.{Judged, refused, passed, Outcome, accepted, faulty, proceed, walk, badSize}
 use Rattle.log_line.specs.Header.{columnsOf, isHeader}
-use Rattle.log_line.specs.Step.{Step, stepOf, stepAt, malformed, misnumbered, mislinked, mislabelled, linkCount, overLimit}
+use Rattle.log_line.specs.Step.{Step, stepOf, stepAt, areNumbersAt, malformed, misnumbered, mislinked, mislabelled, linkCount, overLimit}
 use Rattle.log_line.specs.Format.{Known, judgeHeader, judgeStep, judgeLine, conclude, logText}
-use Rattle.log_line.specs.Answers.{areNumbersAt, InLimits}
+use Rattle.log_line.specs.Answers.{InLimits}
 use Rattle.log_line.proofs.StepLaws.{in-limits}
 use Rattle.log.specs.Accepted.{StepFits, StepsFit, none, more}
 use Rattle.log.proofs.BufferLaws.{count-end, count-more}

@@ -14,7 +14,7 @@ use Rattle.text.specs.Fields.{fieldOf, sameBytes}
 use Rattle.text.specs.Numbers.{decimal, numberOf, isNumber, valueOf}
 use Rattle.text.specs.declared.fields.Field.{Field}
 use Rattle.text.specs.declared.fields.Field.the-variants.{At, Missing}
-use Rattle.log_line.specs.Step.{Step, predsOf, areNumbers, arePreds, malformed, mislinked, mislabelled, linkCount, overLimit}
+use Rattle.log_line.specs.Step.{Step, predsOf, areNumbers, areNumbersAt, arePreds, malformed, mislinked, mislabelled, linkCount, overLimit}
 use Rattle.log_line.specs.Format.{Known}
 use Rattle.log_line.specs.Answers.{orderOf, InLimits, ValuesJudged, StepJudged}
 use Rattle.log_line.specs.declared.refusals.Refusal.the-variants.{Malformed, Number, Links, Labels, Limit}
@@ -51,7 +51,7 @@ or-last false false false = refl
 preds-needed : (o : ColumnOrder) (fs : List (List ℕ)) → false ≡ arePreds (getD fs (o .preds) []) → malformed (orderOf o) fs ≡ true
 preds-needed o fs e =
     rw (← e) (or-last (not (eqb (length fs) 4))
-    (not (isNumber (getD fs (o .vertex) []) && (isNumber (getD fs (o .board) []) && isNumber (getD fs (o .labels) []))))
+    (not (areNumbersAt (orderOf o) fs))
     (ltb 255 (valueOf (getD fs (o .board) []))))
 
 -- ---- 25 and 26, as tests on numbers

@@ -47,13 +47,16 @@ areNumbers (p ∷ ps) = isNumber p && areNumbers ps
 abbrev pub arePreds : List ℕ → Bool
 arePreds f = isNone f || areNumbers (split 44 f)
 
+-- The fields of vertex, board and labels are numbers.
+abbrev pub areNumbersAt : Columns → List (List ℕ) → Bool
+areNumbersAt c fs = isNumber (getD fs (c .vertex) []) && (isNumber (getD fs (c .board) []) && isNumber (getD fs (c .labels) []))
+
 -- 21, below the header: a wrong number of fields, one of the other three not a number, a board over 255, or `preds` neither `-` nor
 -- numbers joined by single commas.
 abbrev pub malformed : Columns → List (List ℕ) → Bool
 malformed c fs =
     not (eqb (length fs) 4)
-    || (not (isNumber (getD fs (c .vertex) []) && (isNumber (getD fs (c .board) []) && isNumber (getD fs (c .labels) [])))
-    || (ltb mostBoard (valueOf (getD fs (c .board) [])) || not (arePreds (getD fs (c .preds) []))))
+    || (not (areNumbersAt c fs) || (ltb mostBoard (valueOf (getD fs (c .board) [])) || not (arePreds (getD fs (c .preds) []))))
 
 -- 23: the step number is not the line's number less two.
 abbrev pub misnumbered : Columns → ℕ → List (List ℕ) → Bool
