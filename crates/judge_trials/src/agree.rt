@@ -79,9 +79,14 @@ fn judge_both(pattern: &[u16], log: &[u16], r: Random, counts: &mut [u64]) {
     let mut work = [0u16; 16384];
     tallies::fill_noise(&mut result, r.below(65536) as u16);
     noise_or_zeros(&mut work, r.below(65521) as u16, r.below(2) == 0);
-    let a = judging::judge(pattern, log, &mut result, &mut work);
+    let a = judge(pattern, log, &mut result, &mut work);
     add_if(counts, NOT_CLEARED, !tallies::all_zero(&work));
     compare(pattern, log, a, &result, counts);
+}
+
+// The library's judge, without its contract: nothing here rests on it.
+fn judge(pattern: &[u16], log: &[u16], result: &mut [u16], work: &mut [u16]) -> Answer {
+    judging::judge(pattern, log, result, work)
 }
 
 fn noise_or_zeros(s: &mut [u16], from: u16, noise: bool) {
