@@ -3,8 +3,8 @@ use Prim.Native.Nat.{_-_}
 use borrow.Author.Needs.{needs}
 use lib.ListN.{length}
 use mathlib.Core.Path.{_≡_}
-use Rattle.judge_trials.proofs.agree.count_bits.Statement.{statement}
-use Rattle.judge_trials.proofs.agree.count_bits.Tie as tie
+use Rattle.row_counts.proofs.count_bits.Statement.{statement}
+use Rattle.row_counts.proofs.count_bits.Tie as tie
 
 abbrev Inv-loop : tie.InvT-loop
 Inv-loop prefixes counts₀ k₀ counts k = length counts ≡ length counts₀

@@ -3,8 +3,8 @@ use Prim.Native.Nat.{_-_}
 use borrow.Author.Needs.{needs}
 use lib.ListN.{length}
 use mathlib.Core.Path.{_≡_}
-use Rattle.demand_trials.proofs.beyond.try_pairs.Statement.{statement}
-use Rattle.demand_trials.proofs.beyond.try_pairs.Tie as tie
+use Rattle.added_trials.proofs.added.try_pairs.Statement.{statement}
+use Rattle.added_trials.proofs.added.try_pairs.Tie as tie
 
 abbrev Inv-loop : tie.InvT-loop
 Inv-loop pairs counts₀ r₀ i₀ counts r i = length counts ≡ length counts₀

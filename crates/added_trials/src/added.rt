@@ -7,9 +7,9 @@ use trial::Random;
 use trial::get;
 
 // Where the counts of the logs with additions begin, and those of the logs with first labels; and how far on each count stands.
-const ADDED: usize = 8;
+const ADDED: usize = 0;
 
-const BARE: usize = 17;
+const BARE: usize = 9;
 
 const SOME_PAIRS: usize = 0;
 
@@ -29,7 +29,7 @@ const GAINED: usize = 7;
 
 const REFUSED: usize = 8;
 
-const MORE_THAN_NONE: usize = 26;
+const MORE_THAN_NONE: usize = 18;
 
 // Did first labels take a SOME away?
 pub fn tell_lost(counts: &mut [u64]) {

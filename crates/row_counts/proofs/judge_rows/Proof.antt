@@ -3,8 +3,8 @@ use Prim.Native.Nat.{_-_}
 use borrow.Author.Needs.{needs}
 use lib.ListN.{length}
 use mathlib.Core.Path.{_≡_}
-use Rattle.judge_trials.proofs.agree.judge_rows.Statement.{statement}
-use Rattle.judge_trials.proofs.agree.judge_rows.Tie as tie
+use Rattle.row_counts.proofs.judge_rows.Statement.{statement}
+use Rattle.row_counts.proofs.judge_rows.Tie as tie
 
 abbrev Inv-loop : tie.InvT-loop
 Inv-loop n beads on begun result rows₀ counts₀ whole₀ v₀ rows counts whole v = (length rows ≡ length rows₀) × (length counts ≡ length counts₀)

@@ -3,23 +3,29 @@ use Prim.Native.Nat.{_-_}
 use borrow.Author.Needs.{needs}
 use lib.ListN.{length}
 use mathlib.Core.Path.{_≡_}
-use Rattle.demand_trials.proofs.beyond.compare_rows.Statement.{statement}
-use Rattle.demand_trials.proofs.beyond.compare_rows.Tie as tie
+use Rattle.added_trials.proofs.added.compare_rows.Statement.{statement}
+use Rattle.added_trials.proofs.added.compare_rows.Tie as tie
 
 abbrev Inv-loop : tie.InvT-loop
-Inv-loop beads n past one two counts₀ w₀ counts w = length counts ≡ length counts₀
+Inv-loop some n one two at counts₀ w₀ counts w = length counts ≡ length counts₀
 
 abbrev μ-loop : tie.MeasureT-loop
-μ-loop beads n past one two counts₀ w₀ counts w = n - w
+μ-loop some n one two at counts₀ w₀ counts w = n - w
 
 loop-holds : tie.Need-loop-holds Inv-loop μ-loop
 loop-holds c = search needs
 
-cast-get : tie.Need-cast-get Inv-loop μ-loop
-cast-get c = search needs
+row-place-requires : tie.Need-row-place-requires Inv-loop μ-loop
+row-place-requires c κs = search needs
+
+cast-row : tie.Need-cast-row Inv-loop μ-loop
+cast-row c = search needs
 
 get-requires : tie.Need-get-requires Inv-loop μ-loop
 get-requires c κs = search needs
+
+get-requires-2 : tie.Need-get-requires-2 Inv-loop μ-loop
+get-requires-2 c κs = search needs
 
 compare-row-requires : tie.Need-compare-row-requires Inv-loop μ-loop
 compare-row-requires c κs = search needs
@@ -46,8 +52,10 @@ compare-rows-spec =
     Inv-loop
     μ-loop
     loop-holds
-    cast-get
+    row-place-requires
+    cast-row
     get-requires
+    get-requires-2
     compare-row-requires
     add-w
     loop-less
