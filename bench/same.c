@@ -47,7 +47,7 @@ static void backward_pass(const struct judging *j, unsigned target, uint16_t goa
     for (unsigned x = target; x > 0; x--) {
         unsigned here = states[x];
         if (here == 0) continue;
-        unsigned before = pull(table + 16 * x, here), end = log[BEGINS + x + 1];
+        unsigned before = log[LABELS + x] ? pull(table + 16 * x, here) : here, end = log[BEGINS + x + 1];
         for (unsigned i = log[BEGINS + x]; i < end; i++) states[log[LINKS + i]] |= before;
     }
 }
@@ -102,7 +102,7 @@ static void forward_pass(const struct judging *j, unsigned u, uint16_t *restrict
     for (unsigned x = u + 1; x < j->steps; x++) {
         unsigned before = 0, end = log[BEGINS + x + 1];
         for (unsigned i = log[BEGINS + x]; i < end; i++) before |= states[log[LINKS + i]];
-        states[x] = before ? entered(table + 16 * x, before) : 0;
+        states[x] = before && log[LABELS + x] ? entered(table + 16 * x, before) : before;
     }
 }
 

@@ -20,8 +20,8 @@ use Rattle.necklace.proofs.Backward.{pass-down, pass-end, pass-ext, pass-ext-on
 use Rattle.pattern_buffer.specs.Meaning.{automatonOf}
 use Rattle.log_buffer.specs.Meaning.{stepsIn, linksInto, logOf}
 use Rattle.log_buffer.proofs.Meaning.{preds-are}
-use Rattle.step_table.specs.Table.{Tabled, Laid, pulled}
-use Rattle.backward.specs.Backward.{PassedBy, Pushed}
+use Rattle.step_table.specs.Table.{Tabled, Laid, pulled, BareIf}
+use Rattle.backward.specs.Backward.{PassedBy, PulledBy, Pushed}
 use Rattle.step_table.proofs.TableLaws.{pulled-enters, next-within}
 
 -- A list of sets as the pass has it: the state q is in the set of the vertex w.
@@ -40,6 +40,26 @@ enters-empty A (a ∷ ls) S q h =
     no-false (someOf (λ b. someOf S (A .next q b)) (a ∷ ls))
     (λ t. let l = someOf-out (λ b. someOf S (A .next q b)) (a ∷ ls) t in let r = someOf-out S (A .next q (l .0)) (l .2) in false-no (S (r .0)) (h (r .0)) (r .2))
 
+-- ---- over one step
+
+module _ (log work : List ℕ) (x set : ℕ) (inside : x < stepsIn log) where
+  pub over-bare : (t : Bool) → BareIf log x t → t ≡ true → PulledBy log work x set set
+  over-bare t b e = record { states = λ p j d q k. sym (ap (λ (ls : List ℕ). enters (automatonOf p j) ls (λ r. member r set) q) (b .labels e)) }
+
+  pub over-table : (t : ℕ) → t ≡ setOf 16 (pulled work x set) → PulledBy log work x set t
+  over-table t e = record {
+    states = λ p j d q k.
+        ap (member q) e ∙ member-setOf 16 (pulled work x set) q k
+        ∙ pulled-enters (logOf log) (automatonOf p j) (stepsIn log) work d x set q inside k (λ a r n. next-within p j q a r n);
+  }
+
+pub over-few : (log : List ℕ) (x : ℕ) → Laid log → x < stepsIn log → x < 1024
+over-few log x l h = let f = l .few in omega arith
+
+pub ruleset over-kit = (over-bare, over-table, over-few)
+
+-- ---- the pass
+
 module _ (log work : List ℕ) (F v : ℕ) where
   -- sets that say what the turn of x says take the pass down
   turn : (x : ℕ) (l m : List ℕ) → 0 < x → Left log work F v x l
@@ -55,12 +75,10 @@ module _ (log work : List ℕ) (F v : ℕ) where
   }
 
   module _ (x : ℕ) (l : List ℕ) (some : 0 < x) (low : x ≤ v) (high : v < stepsIn log) (inv : Left log work F v x l) where
-    pub back-turn : (t : ℕ) (m : List ℕ) → t ≡ setOf 16 (pulled work x (getD l x 0)) → Pushed (linksInto log x) t l m → Left log work F v (x - 1) m
+    pub back-turn : (t : ℕ) (m : List ℕ) → PulledBy log work x (getD l x 0) t → Pushed (linksInto log x) t l m → Left log work F v (x - 1) m
     back-turn t m e p = turn x l m some inv (λ b j d w q k.
         p .sets w q k
-        ∙ ap₂ (λ (ls : List ℕ) (c : Bool). member q (getD l w 0) || (elem w ls && c)) (sym (preds-are log x (omega arith)))
-        (ap (member q) e ∙ member-setOf 16 (pulled work x (getD l x 0)) q k
-        ∙ pulled-enters (logOf log) (automatonOf b j) (stepsIn log) work d x (getD l x 0) q (omega arith) k (λ a r n. next-within b j q a r n)))
+        ∙ ap₂ (λ (ls : List ℕ) (c : Bool). member q (getD l w 0) || (elem w ls && c)) (sym (preds-are log x (omega arith))) (e .states b j d q k))
 
     pub back-skip : getD l x 0 ≡ 0 → Left log work F v (x - 1) l
     back-skip e = turn x l l some inv (λ b j d w q k.

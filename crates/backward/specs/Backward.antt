@@ -7,7 +7,7 @@ use lib.ListN.{length, getD}
 use Rattle.sets.specs.Sets.{member}
 use Rattle.necklace.specs.Dag.{Dag}
 use Rattle.necklace.specs.Automaton.{Automaton}
-use Rattle.necklace.specs.Compute.{elem, backward}
+use Rattle.necklace.specs.Compute.{elem, enters, backward}
 use Rattle.log_line.specs.Limits.{mostLinks, beginAt}
 use Rattle.log_buffer.specs.Meaning.{at, stepsIn, logOf}
 use Rattle.pattern_buffer.specs.Meaning.{automatonOf}
@@ -29,6 +29,11 @@ pub record Inside (n : ℕ) (list : List ℕ) : Type 0 where
 -- The set is added to the set of each vertex of a list, and nothing to the others.
 pub record Pushed (links : List ℕ) (set : ℕ) (old new : List ℕ) : Type 0 where
   pub sets : (w q : ℕ) → q < 16 → member q (getD new w 0) ≡ (member q (getD old w 0) || (elem w links && member q set))
+
+-- The states t from which entering x leads into the set, by the step table of any bead of any pattern.
+pub record PulledBy (log work : List ℕ) (x set t : ℕ) : Type 0 where
+  pub states : (pattern : List ℕ) (j : ℕ) → Tabled (logOf log) (automatonOf pattern j) (stepsIn log) work → (q : ℕ) → q < 16
+      → member q t ≡ enters (automatonOf pattern j) (logOf log .labels x) (λ r. member r set) q
 
 -- After the backward pass over a log buffer, by the step table of any bead of any pattern.
 pub record PassedBy (log work : List ℕ) (F v : ℕ) (sets : List ℕ) : Type 0 where

@@ -5,7 +5,7 @@ ghost use lib.ListN.{length, set, replicate};
 ghost use Rattle.log_line.specs.Limits.{mostSteps};
 ghost use Rattle.log_buffer.specs.Meaning.{stepsIn, linksInto};
 ghost use Rattle.step_table.specs.Table.{tableLength, Laid};
-ghost use Rattle.backward.specs.Backward.{Begins, Inside, Pushed, PassedBy};
+ghost use Rattle.backward.specs.Backward.{Begins, Inside, Pushed, PulledBy, PassedBy};
 
 // Sets every number to 0.
 pub fn clear(list: &mut [u16])
@@ -67,6 +67,20 @@ pub fn begin_pass(target: usize, goal: u16, states: &mut [u16])
     states[target] = goal;
 }
 
+// The states from which entering the step x leads into the set, by the step table in `work`. A step without labels needs no table.
+fn pull_over(log: &[u16], work: &[u16], x: usize, set: u16) -> u16
+    requires { ⌜ Laid (now log) ⌝ }
+    requires { ⌜ x < stepsIn (now log) ⌝ }
+    requires { ⌜ tableLength ≤ length (now work) ⌝ }
+    ensures { λ r. ⌜ PulledBy (now (log .entry)) (now (work .entry)) x set r ⌝ }
+{
+    let bare = step_table::is_bare(log, x);
+    if bare {
+        return set;
+    }
+    step_table::pull(work, x, set)
+}
+
 // The backward pass from the target, which has the goal for its set; by the step table in `work`. A step whose set is empty adds nothing.
 pub fn backward_pass(log: &[u16], work: &[u16], target: usize, goal: u16, states: &mut [u16])
     requires { ⌜ Laid (now log) ⌝ }
@@ -82,7 +96,7 @@ pub fn backward_pass(log: &[u16], work: &[u16], target: usize, goal: u16, states
         let here = states[at];
         x -= 1;
         if here != 0 {
-            let before = step_table::pull(work, at, here);
+            let before = pull_over(log, work, at, here);
             push(log, at, before, states);
         }
     }

@@ -1,37 +1,68 @@
 -- The forward pass over sets as numbers: after each turn the sets are those of the theory's pass.
 use Prim.Native.Nat.{ℕ, zero, suc, _+_, _-_, _≤_, _<_}
-use mathlib.Core.Path.{_≡_, refl, sym, ap, ap₂, _∙_}
-use mathlib.Core.Bool.{Bool, _&&_}
+use mathlib.Core.Path.{_≡_, refl, sym, ap, ap₂, _∙_, subst}
+use mathlib.Core.Bool.{Bool, true, _&&_}
 use mathlib.Core.List.{List}
 use native.Mathlib.Decide.{ℕ-discrete}
 use native.Mathlib.Omega.{arith}
 use borrow.Author.Tests.{eq-eqb, ne-eqb}
-use lib.Dec.{eqb}
+use lib.Dec.{T, eqb, eqb→eq, eqb-refl}
 use lib.ListN.{length, getD, set, replicate, length-replicate}
 use lib.Seq.{getD-set-same, getD-set-other}
 use Rattle.sets.specs.Sets.{member, setOf, someBelow}
 use Rattle.sets.proofs.Bits.{member-empty}
-use Rattle.sets.proofs.Laws.{member-setOf, member-singleton}
+use Rattle.sets.proofs.Truth.{same, and-i, and-l, and-r}
+use Rattle.sets.proofs.Laws.{member-setOf, member-singleton, someBelow-out, someBelow-in}
 use Rattle.necklace.specs.Automaton.{Automaton}
 use Rattle.necklace.specs.Compute.{someOf}
 use Rattle.pattern_buffer.specs.Meaning.{automatonOf}
 use Rattle.log_buffer.specs.Meaning.{stepsIn, linksInto, logOf}
 use Rattle.log_buffer.proofs.Meaning.{preds-are}
-use Rattle.step_table.specs.Table.{reached, workAt, Tabled, Laid}
+use Rattle.step_table.specs.Table.{reached, workAt, Tabled, Laid, BareIf}
 use Rattle.step_table.proofs.SetLaws.{someBelow-ext}
 use Rattle.backward.proofs.BackLaws.{family}
 use Rattle.forward.specs.Forward.{arrives, ahead, forward}
 use Rattle.forward.specs.Pass.{gathered, enteredBy, Arrived, ForwardedBy}
 use Rattle.forward.proofs.Agrees.{arrives-ext, ahead-first, ahead-other, ahead-turn, settled}
 
-pub arrived : (log work states : List ℕ) (x set t : ℕ) → set ≡ setOf 16 (gathered states (linksInto log x)) → t ≡ setOf 16 (enteredBy work x set)
-    → Arrived log work states x t
-arrived log work states x set t es et = record {
-  states = λ r k.
-      ap (member r) et ∙ member-setOf 16 (enteredBy work x set) r k
-      ∙ someBelow-ext 16 (λ q. member q set && member r (getD work (workAt x q) 0)) (λ q. gathered states (linksInto log x) q && member r (getD work (workAt x q) 0))
-      (λ q m. ap (λ (b : Bool). b && member r (getD work (workAt x q) 0)) (ap (member q) es ∙ member-setOf 16 (gathered states (linksInto log x)) q m));
-}
+-- ---- the set of one step
+
+-- the numbers below n that pass and are r: r, if it passes
+someBelow-is : (n : ℕ) (f : ℕ → Bool) (r : ℕ) → r < n → someBelow n (λ q. f q && eqb r q) ≡ f r
+someBelow-is n f r h = same (someBelow n (λ q. f q && eqb r q)) (f r) forth back
+  where
+    forth : T (someBelow n (λ q. f q && eqb r q)) → T (f r)
+    forth t =
+        let s = someBelow-out n (λ q. f q && eqb r q) t in
+        subst (λ (q : ℕ). T (f q)) (sym (eqb→eq r (s .0) (and-r (f (s .0)) (eqb r (s .0)) (s .2)))) (and-l (f (s .0)) (eqb r (s .0)) (s .2))
+
+    back : T (f r) → T (someBelow n (λ q. f q && eqb r q))
+    back t = someBelow-in n (λ q. f q && eqb r q) r h (and-i (f r) (eqb r r) t (eqb-refl r))
+
+module _ (log work states : List ℕ) (x set : ℕ) (inside : x < stepsIn log) (es : set ≡ setOf 16 (gathered states (linksInto log x))) where
+  -- the states of the predecessors
+  come : (q : ℕ) → q < 16 → member q set ≡ someOf (λ w. member q (getD states w 0)) (logOf log .preds x)
+  come q m = ap (member q) es ∙ member-setOf 16 (gathered states (linksInto log x)) q m ∙ ap (someOf (λ w. member q (getD states w 0))) (sym (preds-are log x inside))
+
+  pub arrived : (t : ℕ) → t ≡ setOf 16 (enteredBy work x set) → Arrived log work states x t
+  arrived t et = record {
+    states = λ b j tab r k.
+        ap (member r) et ∙ member-setOf 16 (enteredBy work x set) r k
+        ∙ someBelow-ext 16 (λ q. member q set && member r (getD work (workAt x q) 0))
+        (λ q. someOf (λ w. member q (getD states w 0)) (logOf log .preds x) && reached (automatonOf b j) (logOf log .labels x) q r)
+        (λ q m. ap₂ _&&_ (come q m) (ap (member r) (tab .entry x q inside m) ∙ member-setOf 16 (reached (automatonOf b j) (logOf log .labels x) q) r k));
+  }
+
+  pub arrived-bare : (t : Bool) → BareIf log x t → t ≡ true → Arrived log work states x set
+  arrived-bare t bare e = record {
+    states = λ b j tab r k.
+        come r k ∙ sym (someBelow-is 16 (λ q. someOf (λ w. member q (getD states w 0)) (logOf log .preds x)) r k)
+        ∙ sym (ap (λ (ls : List ℕ). someBelow 16 (λ q. someOf (λ w. member q (getD states w 0)) (logOf log .preds x) && reached (automatonOf b j) ls q r)) (bare .labels e));
+  }
+
+pub ruleset set-kit = (arrived, arrived-bare)
+
+-- ---- the pass
 
 -- The turns of the vertices below x are made.
 pub record Turned (log work : List ℕ) (u x : ℕ) (l : List ℕ) : Type 0 where
@@ -81,21 +112,11 @@ module _ (log work : List ℕ) (u : ℕ) where
         turn : x ≡ suc (u + d)
         turn = omega arith
 
-        there : (b : List ℕ) (j : ℕ) → Tabled (logOf log) (automatonOf b j) (stepsIn log) work → (q : ℕ) → q < 16
-            → member q t ≡ arrives (logOf log) (automatonOf b j) (family l) x q
-        there b j tab q k =
-            a .states q k
-            ∙ someBelow-ext 16 (λ p. gathered l (linksInto log x) p && member q (getD work (workAt x p) 0))
-            (λ p. someOf (λ w. family l w p) (logOf log .preds x) && reached (automatonOf b j) (logOf log .labels x) p q)
-            (λ p m. ap₂ _&&_
-            (ap (someOf (λ w. family l w p)) (sym (preds-are log x (omega arith))))
-            (ap (member q) (tab .entry x p (omega arith) m) ∙ member-setOf 16 (reached (automatonOf b j) (logOf log .labels x) p) q k))
-
         go : (b : List ℕ) (j : ℕ) → Tabled (logOf log) (automatonOf b j) (stepsIn log) work → (w q : ℕ) → q < 16 → Dec (w ≡ x)
             → family (set l x t) w q ≡ ahead (logOf log) (automatonOf b j) u (x + 1 - suc u) w q
         go b j tab w q k (yes z) =
             rw (z, number)
-            (ap (member q) (getD-set-same l x t 0 inside) ∙ there b j tab q k
+            (ap (member q) (getD-set-same l x t 0 inside) ∙ a .states b j tab q k
             ∙ arrives-ext (logOf log) (automatonOf b j) (family l) (ahead (logOf log) (automatonOf b j) u d) (inv .sets b j tab) x q
             ∙ sym (ahead-turn (logOf log) (automatonOf b j) u d x q turn))
         go b j tab w q k (no n) =

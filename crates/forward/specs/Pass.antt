@@ -11,7 +11,7 @@ use Rattle.necklace.specs.Compute.{someOf}
 use Rattle.log_buffer.specs.Meaning.{stepsIn, linksInto, logOf}
 use Rattle.pattern_buffer.specs.Meaning.{automatonOf}
 use Rattle.step_table.specs.Table.{workAt, Tabled}
-use Rattle.forward.specs.Forward.{forward}
+use Rattle.forward.specs.Forward.{arrives, forward}
 
 -- The states in the set of some listed vertex.
 abbrev pub gathered : List ℕ → List ℕ → ℕ → Bool
@@ -21,9 +21,10 @@ gathered sets links q = someOf (λ w. member q (getD sets w 0)) links
 abbrev pub enteredBy : List ℕ → ℕ → ℕ → ℕ → Bool
 enteredBy work x set r = someBelow 16 (λ q. member q set && member r (getD work (workAt x q) 0))
 
--- The set t of x, from the sets of its predecessors: the states that entering x reaches from a state of one of them, by the step table.
+-- The set t of x, from the sets of its predecessors, by the step table of any bead of any pattern.
 pub record Arrived (log work sets : List ℕ) (x t : ℕ) : Type 0 where
-  pub states : (r : ℕ) → r < 16 → member r t ≡ someBelow 16 (λ q. gathered sets (linksInto log x) q && member r (getD work (workAt x q) 0))
+  pub states : (pattern : List ℕ) (j : ℕ) → Tabled (logOf log) (automatonOf pattern j) (stepsIn log) work → (r : ℕ) → r < 16
+      → member r t ≡ arrives (logOf log) (automatonOf pattern j) (λ w q. member q (getD sets w 0)) x r
 
 -- After the forward pass from u: a set of states for each vertex below n.
 pub record Forwarded (G : Dag) (A : Automaton) (u n : ℕ) (sets : List ℕ) : Type 0 where

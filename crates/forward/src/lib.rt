@@ -64,7 +64,7 @@ fn entered(work: &[u16], x: usize, set: u16) -> u16
     all
 }
 
-// The set of the step x, from the sets of its predecessors.
+// The set of the step x, from the sets of its predecessors. A step without labels needs no table.
 fn set_at(log: &[u16], work: &[u16], x: usize, states: &[u16]) -> u16
     requires { ⌜ Laid (now log) ⌝ }
     requires { ⌜ x < stepsIn (now log) ⌝ }
@@ -73,6 +73,10 @@ fn set_at(log: &[u16], work: &[u16], x: usize, states: &[u16]) -> u16
     ensures { λ r. ⌜ Arrived (now (log .entry)) (now (work .entry)) (now (states .entry)) x r ⌝ }
 {
     let set = before(log, x, states);
+    let bare = step_table::is_bare(log, x);
+    if bare {
+        return set;
+    }
     entered(work, x, set)
 }
 

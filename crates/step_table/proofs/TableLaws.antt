@@ -4,6 +4,7 @@ use mathlib.Core.Path.{_≡_, refl, sym, ap, _∙_, subst}
 use mathlib.Core.Bool.{Bool, true, false, _&&_, _||_}
 use mathlib.Core.List.{List, [], _∷_}
 use native.Mathlib.Omega.{arith}
+use borrow.Author.Tests.{eqb-true}
 use lib.Dec.{T, eqb, eqb→eq, eqb-refl}
 use lib.ListN.{length, getD, set}
 use Rattle.sets.specs.Sets.{_∈_, member, setOf, singleton, union, overlaps, someBelow, members}
@@ -18,7 +19,7 @@ use Rattle.pattern_buffer.specs.Meaning.{automatonOf}
 use Rattle.log_line.specs.Limits.{labelsAt}
 use Rattle.log_buffer.specs.Meaning.{at, stepsIn, logOf}
 use Rattle.log_buffer.proofs.Meaning.{labels-are}
-use Rattle.step_table.specs.Table.{reached, workAt, Tabled, Filled, Laid, pulled}
+use Rattle.step_table.specs.Table.{reached, workAt, Tabled, Filled, Laid, pulled, BareIf}
 use Rattle.step_table.proofs.FilledLaws.{filled-none, filled-more}
 use Rattle.step_table.proofs.SetLaws.{setOf-ext, setOf-empty, setOf-one, someBelow-ext, elem-members, someOf-members, members-empty, empty-members}
 
@@ -150,3 +151,15 @@ pulled-enters G A n work d x set q h k closed =
 -- the next sets of a bead's automaton are within its 16 states
 pub next-within : (b : List ℕ) (j q a r : ℕ) → r ∈ automatonOf b j .next q a → r < 16
 next-within b j q a r m = members-out 16 (getD b (nextAt j q a) 0) r m .0
+
+-- ---- a step without labels
+
+pub bare-if : (log : List ℕ) (x : ℕ) → x < stepsIn log → BareIf log x (eqb (getD log (1 + x) 0) 0)
+bare-if log x h = record {
+  labels = λ e. labels-are log x h ∙ ap (members 16) (eqb-true (getD log (1 + x) 0) 0 e) ∙ members-empty 16;
+}
+
+pub label-in : (log : List ℕ) (x : ℕ) → Laid log → x < stepsIn log → 1 + x < length log
+label-in log x l h = let n = l .long in let f = l .few in omega arith
+
+pub ruleset bare-kit = (bare-if, label-in)

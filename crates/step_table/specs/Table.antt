@@ -1,7 +1,7 @@
 -- The step table of a bead, in terms of the theory, and what is relied on of a log buffer.
 use Prim.Native.Nat.{ℕ, _+_, _*_, _≤_, _<_}
 use mathlib.Core.Path.{_≡_}
-use mathlib.Core.Bool.{Bool}
+use mathlib.Core.Bool.{Bool, true}
 use mathlib.Core.List.{List, [], _∷_}
 use lib.Dec.{eqb}
 use lib.ListN.{length, getD}
@@ -10,7 +10,7 @@ use Rattle.necklace.specs.Dag.{Dag}
 use Rattle.necklace.specs.Automaton.{Automaton}
 use Rattle.necklace.specs.Compute.{someOf, elem}
 use Rattle.log_line.specs.Limits.{mostSteps, mostLinks, beginAt, linkAt, bufferLength}
-use Rattle.log_buffer.specs.Meaning.{at, stepsIn}
+use Rattle.log_buffer.specs.Meaning.{at, stepsIn, logOf}
 
 -- The states to which entering a vertex with these labels leads from q: q itself where there are none.
 abbrev pub reached : Automaton → List ℕ → ℕ → ℕ → Bool
@@ -43,3 +43,7 @@ pub record Laid (log : List ℕ) : Type 0 where
   pub order : (v : ℕ) → v < stepsIn log → at log (beginAt v) ≤ at log (beginAt (v + 1))
   pub inside : (v : ℕ) → v ≤ stepsIn log → at log (beginAt v) ≤ mostLinks
   pub smaller : (v i : ℕ) → v < stepsIn log → at log (beginAt v) ≤ i → i < at log (beginAt (v + 1)) → at log (linkAt i) < v
+
+-- If so, the step has no labels.
+pub record BareIf (log : List ℕ) (x : ℕ) (r : Bool) : Type 0 where
+  pub labels : r ≡ true → logOf log .labels x ≡ []

@@ -7,7 +7,7 @@ ghost use Rattle.pattern_line.specs.Limits.{mostBeads, mostStates, bufferLength
 ghost use Rattle.log_line.specs.Limits.{mostSteps};
 ghost use Rattle.log_buffer.specs.Meaning.{logOf, stepsIn};
 ghost use Rattle.pattern_buffer.specs.Meaning.{automatonOf};
-ghost use Rattle.step_table.specs.Table.{reached, tableLength, Tabled, Laid, pulled};
+ghost use Rattle.step_table.specs.Table.{reached, tableLength, Tabled, Laid, pulled, BareIf};
 
 // The states to which entering a vertex with these labels leads from a state: the state itself where there are none.
 pub fn enter(pattern: &[u16], bead: usize, labels: u16, state: u16) -> u16
@@ -68,4 +68,13 @@ pub fn pull(work: &[u16], x: usize, set: u16) -> u16
         }
     }
     all
+}
+
+// Has the step no labels? Entering it then leaves every state as it is.
+pub fn is_bare(log: &[u16], x: usize) -> bool
+    requires { ⌜ Laid (now log) ⌝ }
+    requires { ⌜ x < stepsIn (now log) ⌝ }
+    ensures { λ r. ⌜ BareIf (now (log .entry)) x r ⌝ }
+{
+    log[1 + x] == 0
 }

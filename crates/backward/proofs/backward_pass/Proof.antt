@@ -29,8 +29,8 @@ slice-read-here c = search (needs, kit)
 sub-x : tie.Need-sub-x Inv-loop μ-loop
 sub-x c = search (needs, kit)
 
-pull-requires : tie.Need-pull-requires Inv-loop μ-loop
-pull-requires c κs = search (needs, kit)
+pull-over-requires : tie.Need-pull-over-requires Inv-loop μ-loop
+pull-over-requires c κs = search (needs, kit)
 
 push-requires : tie.Need-push-requires Inv-loop μ-loop
 push-requires c κs = search (needs, kit)
@@ -64,7 +64,7 @@ backward-pass-spec =
     mul-here
     slice-read-here
     sub-x
-    pull-requires
+    pull-over-requires
     push-requires
     loop-less
     loop-again
