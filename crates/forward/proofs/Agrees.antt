@@ -12,13 +12,13 @@ use native.Mathlib.Omega.{arith}
 use borrow.Author.Tests.{eq-eqb, ne-eqb}
 use lib.Dec.{T, eqb, ltb, eqb→eq, eqb-refl}
 use Rattle.sets.specs.Sets.{_∈_, someBelow}
-use Rattle.sets.proofs.Truth.{same, or-l, or-r, or-cases, and-i, and-l, and-r}
+use Rattle.sets.proofs.Truth.{same, or-cases, and-i, and-l, and-r}
 use Rattle.sets.proofs.Laws.{someBelow-out, someBelow-in}
 use Rattle.necklace.specs.Dag.{Dag, WellFormed, DagPath, here, edge, Reading, done, silent, letter}
 use Rattle.necklace.specs.Automaton.{Automaton, Run, stay, move, exchange}
 use Rattle.necklace.specs.Compute.{someOf, elem, backward, some?, all?}
 use Rattle.necklace.proofs.Lists.{someOf-out, someOf-in, someOf-ext, elem-out, elem-in}
-use Rattle.necklace.proofs.Backward.{LeadsBy, Leads, backward-sound, backward-complete}
+use Rattle.necklace.proofs.Backward.{Leads, backward-sound, backward-complete}
 use Rattle.step_table.specs.Table.{reached}
 use Rattle.step_table.proofs.SetLaws.{someBelow-ext}
 use Rattle.forward.specs.Forward.{arrives, ahead, forward}

@@ -13,7 +13,6 @@ use Rattle.sets.specs.Sets.{member, setOf, someBelow}
 use Rattle.sets.proofs.Bits.{member-empty}
 use Rattle.sets.proofs.Truth.{same, and-i, and-l, and-r}
 use Rattle.sets.proofs.Laws.{member-setOf, member-singleton, someBelow-out, someBelow-in}
-use Rattle.necklace.specs.Automaton.{Automaton}
 use Rattle.necklace.specs.Compute.{someOf}
 use Rattle.pattern_buffer.specs.Meaning.{automatonOf}
 use Rattle.log_buffer.specs.Meaning.{stepsIn, linksInto, logOf}
@@ -21,7 +20,7 @@ use Rattle.log_buffer.proofs.Meaning.{preds-are}
 use Rattle.step_table.specs.Table.{reached, workAt, Tabled, Laid, BareIf}
 use Rattle.step_table.proofs.SetLaws.{someBelow-ext}
 use Rattle.backward.proofs.BackLaws.{family}
-use Rattle.forward.specs.Forward.{arrives, ahead, forward}
+use Rattle.forward.specs.Forward.{arrives, ahead}
 use Rattle.forward.specs.Pass.{gathered, enteredBy, Arrived, ForwardedBy}
 use Rattle.forward.proofs.Agrees.{arrives-ext, ahead-first, ahead-other, ahead-turn, settled}
 

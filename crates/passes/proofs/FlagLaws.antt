@@ -7,9 +7,9 @@ use native.Mathlib.Omega.{arith}
 use borrow.Author.Tests.{lt-ltb, eq-eqb, ne-eqb, ltb-true, ltb-false}
 use lib.Dec.{eqb, ltb}
 use lib.ListN.{length, getD, set}
-use Rattle.sets.specs.Sets.{_∈_, member, complement, someBelow}
-use Rattle.sets.proofs.Truth.{no-false, yes-true, true-yes}
-use Rattle.sets.proofs.Laws.{member-complement, setOf-above, someBelow-none, someBelow-more, someBelow-in}
+use Rattle.sets.specs.Sets.{_∈_, member, complement}
+use Rattle.sets.proofs.Truth.{no-false}
+use Rattle.sets.proofs.Laws.{member-complement, setOf-above}
 use Rattle.necklace.specs.Dag.{Dag}
 use Rattle.necklace.specs.Automaton.{Automaton, exchange}
 use Rattle.necklace.specs.Necklace.{Pattern}
@@ -20,7 +20,6 @@ use Rattle.pattern_buffer.specs.Meaning.{at, automatonOf, patternOf}
 use Rattle.log_buffer.specs.Meaning.{stepsIn, logOf}
 use Rattle.backward.specs.Backward.{PassedBy}
 use Rattle.passes.specs.Passes.{Marked, Flagged, FlagsBy, prefixAt, Earlier, AtHand, servesSome, servesAll}
-use Rattle.step_table.proofs.SetLaws.{someBelow-ext}
 use Rattle.step_table.proofs.FilledLaws.{filled-none, filled-more, filled-end}
 use Rattle.step_table.proofs.TableLaws.{next-within}
 

@@ -1,4 +1,3 @@
 pub mod FlagLaws
 pub mod Facts
 pub mod ServingLaws
-pub mod ReachLaws

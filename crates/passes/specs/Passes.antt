@@ -5,11 +5,11 @@ use mathlib.Core.Bool.{Bool, cond, not, _&&_}
 use mathlib.Core.List.{List}
 use lib.Dec.{eqb}
 use lib.ListN.{length, getD}
-use Rattle.sets.specs.Sets.{member, complement, overlaps}
+use Rattle.sets.specs.Sets.{member}
 use Rattle.necklace.specs.Dag.{Dag}
 use Rattle.necklace.specs.Necklace.{Pattern}
 use Rattle.necklace.specs.Compute.{holds?, serves?, before}
-use Rattle.pattern_line.specs.Limits.{mostBeads, mostStates, ruleAt, statesAt, acceptingAt, bufferLength as patternLength}
+use Rattle.pattern_line.specs.Limits.{mostBeads, mostStates, statesAt, bufferLength as patternLength}
 use Rattle.log_line.specs.Limits.{mostSteps}
 use Rattle.log_buffer.specs.Meaning.{at, stepsIn, logOf}
 use Rattle.pattern_buffer.specs.Meaning.{automatonOf, patternOf}
@@ -82,12 +82,3 @@ pub record Served (G : Dag) (P : Pattern) (n k v : ℕ) (ready : Ready) (work fl
   pub target : ready .target ≡ v
   pub kept : ReadyFor G P n ready work flags
   pub flagged : Flagged G P k v flags
-
--- An ALL bead reaches the vertex that has this set in a forward pass: the set has an accepting state, and no other of the bead's.
-unfoldable pub reachesAll : List ℕ → ℕ → ℕ → Bool
-reachesAll pattern j set =
-    overlaps 16 (at pattern (acceptingAt j)) set && not (overlaps 16 (complement (at pattern (statesAt j)) (at pattern (acceptingAt j))) set)
-
--- The bead reaches it: SOME by an accepting state.
-unfoldable pub reachesBy : List ℕ → ℕ → ℕ → Bool
-reachesBy pattern j set = cond (eqb (at pattern (ruleAt j)) 2) (reachesAll pattern j set) (overlaps 16 (at pattern (acceptingAt j)) set)

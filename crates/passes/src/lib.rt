@@ -1,5 +1,5 @@
 // Which steps serve as the pivot before a target: SOME and ALL are decided bead by bead, for all starting vertices at once, by backward
-// passes from the target. And whether a bead reaches a step, by the step's set of a forward pass.
+// passes from the target.
 ghost use mathlib.Core.Path.{_≡_};
 ghost use mathlib.Core.Bool.{cond};
 ghost use Prim.Native.Nat.{_<_, _≤_};
@@ -11,7 +11,7 @@ ghost use Rattle.log_buffer.specs.Meaning.{logOf, stepsIn};
 ghost use Rattle.pattern_buffer.specs.Meaning.{at, patternOf};
 ghost use Rattle.step_table.specs.Table.{tableLength};
 ghost use Rattle.backward.specs.Backward.{PassedBy};
-ghost use Rattle.passes.specs.Passes.{Flagged, FlagsBy, prefixAt, servesSome, servesAll, BeadIn, Asked, AtHand, ReadyFor, Served, reachesAll, reachesBy};
+ghost use Rattle.passes.specs.Passes.{Flagged, FlagsBy, prefixAt, servesSome, servesAll, BeadIn, Asked, AtHand, ReadyFor, Served};
 
 // What is at hand between calls of `serving`: with bead 0 nothing; else the step table of the bead, numbered from 1, and the flags of
 // the target.
@@ -176,7 +176,7 @@ fn make_denied(
 }
 
 // The states of a bead that do not accept.
-fn other_states(pattern: &[u16], bead: usize) -> u16
+pub fn other_states(pattern: &[u16], bead: usize) -> u16
     requires { ⌜ BeadIn (now pattern) bead ⌝ }
     ensures { λ r. ⌜ r ≡ complement (at (now (pattern .entry)) (statesAt bead)) (at (now (pattern .entry)) (acceptingAt bead)) ⌝ }
 {
@@ -241,28 +241,4 @@ pub fn serving(
         };
     }
     ready
-}
-
-// Does an ALL bead reach the step that has this set in a forward pass? The set has an accepting state, and no other.
-fn reaches_all(pattern: &[u16], bead: usize, set: u16) -> bool
-    requires { ⌜ BeadIn (now pattern) bead ⌝ }
-    ensures { λ r. ⌜ r ≡ reachesAll (now (pattern .entry)) bead set ⌝ }
-{
-    let accepting = sets::overlaps(pattern[18 + bead], set);
-    if accepting {
-        let more = sets::overlaps(other_states(pattern, bead), set);
-        return !more;
-    }
-    false
-}
-
-// Does the bead reach, from the starting step of a forward pass, the step that has this set in it?
-pub fn reaches(pattern: &[u16], bead: usize, set: u16) -> bool
-    requires { ⌜ BeadIn (now pattern) bead ⌝ }
-    ensures { λ r. ⌜ r ≡ reachesBy (now (pattern .entry)) bead set ⌝ }
-{
-    if pattern[2 + bead] == 2 {
-        return reaches_all(pattern, bead, set);
-    }
-    sets::overlaps(pattern[18 + bead], set)
 }

@@ -1,6 +1,6 @@
 -- A turn of the first phase, as the code makes it.
 -- Assumes nothing.
-use Prim.Native.Nat.{ℕ, zero, suc, _+_, _-_, _*_, _/_, _%_, _^_, _≤_, _<_}
+use Prim.Native.Nat.{ℕ, zero, suc, _+_, _*_, _/_, _%_, _^_, _≤_, _<_}
 use mathlib.Core.Path.{_≡_, refl, sym, ap, _∙_, subst}
 use mathlib.Core.Bool.{Bool, true, false}
 use mathlib.Core.List.{List}
@@ -21,11 +21,12 @@ use Rattle.step_table.specs.Table.{Tabled, Laid}
 use Rattle.forward.specs.Pass.{ForwardedBy}
 use Rattle.passes.specs.Passes.{BeadIn, Earlier, prefixAt, Served, ReadyFor}
 use Rattle.passes.proofs.Facts.{laid, bead-in}
-use Rattle.passes.proofs.ReachLaws.{reaches-satisfies}
 use Rattle.pattern_buffer.proofs.Places.{passes-out}
-use Rattle.phases.specs.Phases.{Tried, Turns, TurnOf, TableAt, Unmarked, Added, reachesAt, satisfiesFrom, servesFrom, MarkedUpTo, Marks}
+use Rattle.phases.specs.Phases.{Tried, Turns, TurnOf, TableAt, Unmarked, satisfiesFrom, servesFrom, MarkedUpTo, Marks}
 use Rattle.phases.proofs.PrefixPhase.{marked-none, marked-turn, marked-all, marked-earlier}
-use Rattle.phases.proofs.AddLaws.{added-ext, added-none}
+use Rattle.marking.specs.Marking.{reachesAt, Added}
+use Rattle.marking.proofs.ReachLaws.{reaches-satisfies}
+use Rattle.marking.proofs.AddLaws.{added-ext, added-none}
 
 -- ---- what the tests give
 

@@ -1,17 +1,15 @@
 -- The first phase: which prefixes hold, marked bead by bead.
 -- Assumes nothing.
-use Prim.Native.Nat.{ℕ, zero, suc, _+_, _-_, _*_, _/_, _%_, _^_, _≤_, _<_, min}
-use mathlib.Core.Path.{_≡_, refl, sym, ap, ap₂, _∙_, subst}
-use mathlib.Core.Logic.{_⊎_, inl, inr}
+use Prim.Native.Nat.{ℕ, suc, _+_, _-_, _*_, _/_, _%_, _≤_, _<_, min}
+use mathlib.Core.Path.{_≡_, refl, sym, ap, _∙_}
 use mathlib.Core.Bool.{Bool, true, false, _&&_, _||_}
-use mathlib.Core.List.{List, [], _∷_}
-use native.Mathlib.Nat.{div-add-mod', mod-lt, lt-of-lt-of-le, mul-le-mul-right}
+use mathlib.Core.List.{List}
+use native.Mathlib.Nat.{div-add-mod', lt-of-lt-of-le, mul-le-mul-right}
 use native.Mathlib.Decide.{ℕ-discrete, decLt}
-use native.Mathlib.Numerals.{add-one}
 use native.Mathlib.Omega.{arith}
 use borrow.Author.Tests.{lt-ltb, le-ltb, eq-eqb, ne-eqb}
 use lib.Arith.{digits-div, digits-mod, digits-lt}
-use lib.Dec.{T, ltb, eqb}
+use lib.Dec.{ltb, eqb}
 use lib.ListN.{getD}
 use lib.Pow.{pow-mono}
 use Rattle.sets.specs.Sets.{member, someBelow}
@@ -22,22 +20,13 @@ use Rattle.necklace.specs.Dag.{Dag}
 use Rattle.necklace.specs.Necklace.{Pattern}
 use Rattle.necklace.specs.Compute.{holds?, serves?, prefixes}
 use Rattle.necklace.proofs.RowMeaning.{prefixes-member, prefixes-below}
-use Rattle.phases.specs.Phases.{MarkedUpTo, Added, servesFrom}
+use Rattle.marking.specs.Marking.{Added}
+use Rattle.phases.specs.Phases.{MarkedUpTo, servesFrom}
 
 -- The turn of the bead k and the vertex v is no other's.
 pub one-turn : (n j w k v : ℕ) → w < n → v < n → j * n + w ≡ k * n + v → (j ≡ k) × (w ≡ v)
 one-turn n j w k v h l e =
     (sym (digits-div j h) ∙ ap (λ (x : ℕ). x / n) e ∙ digits-div k l, sym (digits-mod j h) ∙ ap (λ (x : ℕ). x % n) e ∙ digits-mod k l)
-
-pub later : (x i : ℕ) → (x ≡ i → ⊥) → ltb x (i + 1) ≡ ltb x i
-later x i n = go (decLt x i)
-  where
-    go : Dec (x < i) → ltb x (i + 1) ≡ ltb x i
-    go (yes h) = lt-ltb x (i + 1) (omega arith) ∙ sym (lt-ltb x i h)
-    go (no k) = le-ltb x (i + 1) (rest n k) ∙ sym (le-ltb x i (omega arith))
-      where
-        rest : (x ≡ i → ⊥) → (x < i → ⊥) → i + 1 ≤ x
-        rest n k = omega arith
 
 or-false : (b : Bool) → (b || false) ≡ b
 or-false true = refl

@@ -1,11 +1,11 @@
 -- What the judge's two phases have done after a while: bead by bead and, for each bead, vertex by vertex.
 use Prim.Native.Nat.{ℕ, _+_, _-_, _*_, _≤_, _<_, min}
 use mathlib.Core.Path.{_≡_}
-use mathlib.Core.Bool.{Bool, cond, _&&_, _||_}
+use mathlib.Core.Bool.{Bool}
 use mathlib.Core.List.{List}
-use lib.Dec.{T, eqb, ltb}
-use lib.ListN.{length, getD, set}
-use Rattle.sets.specs.Sets.{member, singleton, union, someBelow}
+use lib.Dec.{T}
+use lib.ListN.{length, getD}
+use Rattle.sets.specs.Sets.{member, someBelow}
 use Rattle.necklace.specs.Dag.{Dag}
 use Rattle.necklace.specs.Necklace.{Pattern}
 use Rattle.necklace.specs.Compute.{satisfies?, holds?, serves?, prefixes}
@@ -14,7 +14,7 @@ use Rattle.pattern_buffer.specs.Valid.{isPattern}
 use Rattle.log_buffer.specs.Meaning.{stepsIn, logOf}
 use Rattle.log_buffer.specs.Valid.{isLog}
 use Rattle.step_table.specs.Table.{Tabled}
-use Rattle.passes.specs.Passes.{pivotBack, reachesBy}
+use Rattle.passes.specs.Passes.{pivotBack}
 use Rattle.rows.specs.Rows.{pivotAt}
 
 -- Both buffers passed their tests.
@@ -39,19 +39,7 @@ pub record TurnOf (pattern log : List ℕ) (n k u : ℕ) : Type 0 where
 pub record TableAt (pattern log : List ℕ) (k u : ℕ) (work : List ℕ) : Type 0 where
   pub table : (u ≡ 0 → ⊥) → Tabled (logOf log) (automatonOf pattern k) (stepsIn log) work
 
--- The bead k is added to the set of the vertex v, if so.
-unfoldable pub markedIf : Bool → ℕ → ℕ → List ℕ → List ℕ
-markedIf b k v prefixes = cond b (set prefixes v (union 16 (getD prefixes v 0) (singleton k))) prefixes
-
--- The bead k is added to the set of each vertex above u and below m that passes a test, and nothing else is.
-pub record Added (f : ℕ → Bool) (k u m : ℕ) (old new : List ℕ) : Type 0 where
-  pub few : ((v : ℕ) → getD old v 0 < 65536) → (v : ℕ) → getD new v 0 < 65536
-  pub sets : (j v : ℕ) → j < 16 → member j (getD new v 0) ≡ (member j (getD old v 0) || (eqb j k && (ltb u v && (ltb v m && f v))))
-
--- The tests, for a starting vertex u: by the sets of a forward pass; the bead k + 1 holds on (u, v); and u serves as the pivot before v.
-unfoldable pub reachesAt : List ℕ → ℕ → List ℕ → ℕ → Bool
-reachesAt pattern k states v = reachesBy pattern k (getD states v 0)
-
+-- The tests by which beads are added, for a starting vertex u: the bead k + 1 holds on (u, v); and u serves as the pivot before v.
 unfoldable pub satisfiesFrom : Dag → Pattern → ℕ → ℕ → ℕ → Bool
 satisfiesFrom G P k u v = satisfies? G (P .bead k) u v
 

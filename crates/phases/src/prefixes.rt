@@ -1,53 +1,13 @@
 // The first phase, beads upwards: at which steps each prefix of the pattern holds.
-ghost use mathlib.Core.Path.{_≡_};
 ghost use Prim.Native.Nat.{_<_, _≤_};
-ghost use lib.ListN.{length, getD};
+ghost use lib.ListN.{length};
 ghost use Rattle.log_buffer.specs.Meaning.{logOf, stepsIn};
 ghost use Rattle.pattern_buffer.specs.Meaning.{automatonOf, patternOf};
 ghost use Rattle.step_table.specs.Table.{Tabled};
-ghost use Rattle.passes.specs.Passes.{BeadIn, Earlier};
-ghost use Rattle.phases.specs.Phases.{Tried, Turns, TurnOf, TableAt, Marks, markedIf, Added, reachesAt, satisfiesFrom, servesFrom, Unmarked};
+ghost use Rattle.passes.specs.Passes.{Earlier};
+ghost use Rattle.marking.specs.Marking.{Added};
+ghost use Rattle.phases.specs.Phases.{Tried, Turns, TurnOf, TableAt, Marks, satisfiesFrom, servesFrom, Unmarked};
 use crate::wide;
-
-// The bead is added to the prefixes of the step, if so.
-fn mark(bead: usize, step: usize, holds: bool, prefixes: &mut [u16])
-    requires { ⌜ (bead < 16) × (step < 1024) × (1024 ≤ length (now prefixes)) ⌝ }
-    ensures { λ _. ⌜ now (prefixes .exit) ≡ markedIf holds bead step (now (prefixes .entry)) ⌝ }
-{
-    if holds {
-        prefixes[step] = sets::union(prefixes[step], sets::singleton(bead as u16));
-    }
-}
-
-// The bead is added to the prefixes of the step, if it reaches the step by the step's set in a forward pass.
-fn mark_at(pattern: &[u16], bead: usize, step: usize, states: &[u16], prefixes: &mut [u16])
-    requires { ⌜ BeadIn (now pattern) bead ⌝ }
-    requires { ⌜ (step < 1024) × (1024 ≤ length (now states)) × (1024 ≤ length (now prefixes)) ⌝ }
-    ensures { λ _. ⌜ now (prefixes .exit) ≡ markedIf (reachesAt (now (pattern .entry)) bead (now (states .entry)) step) bead step (now (prefixes .entry)) ⌝ }
-{
-    let reached = passes::reaches(pattern, bead, states[step]);
-    mark(bead, step, reached, prefixes);
-}
-
-// Adds the bead to the prefixes of the steps after u that it reaches, by their sets in the forward pass from u.
-fn mark_reached(
-    pattern: &[u16],
-    bead: usize,
-    u: usize,
-    n: usize,
-    states: &[u16],
-    prefixes: &mut [u16],
-)
-    requires { ⌜ BeadIn (now pattern) bead ⌝ }
-    requires { ⌜ (u < n) × (n ≤ 1024) × (1024 ≤ length (now states)) × (1024 ≤ length (now prefixes)) ⌝ }
-    ensures { λ _. ⌜ Added (reachesAt (now (pattern .entry)) bead (now (states .entry))) bead u n (now (prefixes .entry)) (now (prefixes .exit)) ⌝ }
-{
-    let mut v = u + 1;
-    while v < n {
-        mark_at(pattern, bead, v, states, prefixes);
-        v += 1;
-    }
-}
 
 // Adds the bead to the prefixes of the steps on which it holds from u: one forward pass.
 fn mark_from(
@@ -66,7 +26,7 @@ fn mark_from(
 {
     let mut states = [0u16; 1024];
     forward::forward_pass(log, work, u, &mut states);
-    mark_reached(pattern, bead, u, n, &states, prefixes);
+    marking::mark_reached(pattern, bead, u, n, &states, prefixes);
 }
 
 // Adds the bead to the prefixes of the steps before which u serves as the pivot: none, unless the earlier beads hold at u.

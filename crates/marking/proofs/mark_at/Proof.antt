@@ -1,8 +1,8 @@
 -- `mark_at` marks one step by its set.
-use Rattle.phases.proofs.AddLaws.{marked-at}
+use Rattle.marking.proofs.AddLaws.{marked-at}
 use borrow.Author.Needs.{needs}
-use Rattle.phases.proofs.prefixes.mark_at.Statement.{statement}
-use Rattle.phases.proofs.prefixes.mark_at.Tie as tie
+use Rattle.marking.proofs.mark_at.Statement.{statement}
+use Rattle.marking.proofs.mark_at.Tie as tie
 
 mul-reaches : tie.Need-mul-reaches
 mul-reaches c = search needs

@@ -1,8 +1,8 @@
 -- `reaches` goes by the rule of the bead.
-use Rattle.passes.proofs.ReachLaws.{kit}
+use Rattle.marking.proofs.ReachLaws.{kit}
 use borrow.Author.Needs.{needs}
-use Rattle.passes.proofs.reaches.Statement.{statement}
-use Rattle.passes.proofs.reaches.Tie as tie
+use Rattle.marking.proofs.reaches.Statement.{statement}
+use Rattle.marking.proofs.reaches.Tie as tie
 
 add-if1 : tie.Need-add-if1
 add-if1 c = search (needs, kit)

@@ -20,8 +20,8 @@ use Rattle.step_table.proofs.TableLaws.{next-within}
 use Rattle.forward.specs.Forward.{forward}
 use Rattle.forward.specs.Pass.{ForwardedBy}
 use Rattle.forward.proofs.Agrees.{some-forward, all-forward}
-use Rattle.passes.specs.Passes.{reachesAll, reachesBy}
+use Rattle.marking.specs.Marking.{reachesAll, reachesBy}
 use Rattle.passes.proofs.FlagLaws.{member-others}
 
 -- ---- as the code tests it
 

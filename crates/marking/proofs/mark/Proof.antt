@@ -1,8 +1,8 @@
 -- `mark` adds the bead, if so.
-use Rattle.phases.proofs.AddLaws.{mark-kit as kit}
+use Rattle.marking.proofs.AddLaws.{mark-kit as kit}
 use borrow.Author.Needs.{needs}
-use Rattle.phases.proofs.prefixes.mark.Statement.{statement}
-use Rattle.phases.proofs.prefixes.mark.Tie as tie
+use Rattle.marking.proofs.mark.Statement.{statement}
+use Rattle.marking.proofs.mark.Tie as tie
 
 mul-union : tie.Need-mul-union
 mul-union c = search (needs, kit)

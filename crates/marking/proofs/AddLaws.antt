@@ -11,9 +11,8 @@ use lib.ListN.{length, getD, set}
 use lib.Seq.{getD-set-same, getD-set-other}
 use Rattle.sets.specs.Sets.{member, singleton, union}
 use Rattle.sets.proofs.Laws.{member-union, member-singleton, union-below}
-use Rattle.passes.specs.Passes.{BeadIn, reachesBy}
-use Rattle.phases.specs.Phases.{Added, markedIf, reachesAt}
-use Rattle.phases.proofs.PrefixPhase.{later}
+use Rattle.passes.specs.Passes.{BeadIn}
+use Rattle.marking.specs.Marking.{reachesBy, reachesAt, markedIf, Added}
 
 -- ---- one vertex
 
@@ -34,6 +33,16 @@ unfolding reachesAt
 marked-at pattern states prefixes new k v b eb e = e ∙ ap (λ (c : Bool). markedIf c k v prefixes) eb
 
 -- ---- the loop over the vertices after u
+
+later : (x i : ℕ) → (x ≡ i → ⊥) → ltb x (i + 1) ≡ ltb x i
+later x i n = go (decLt x i)
+  where
+    go : Dec (x < i) → ltb x (i + 1) ≡ ltb x i
+    go (yes h) = lt-ltb x (i + 1) (omega arith) ∙ sym (lt-ltb x i h)
+    go (no k) = le-ltb x (i + 1) (rest n k) ∙ sym (le-ltb x i (omega arith))
+      where
+        rest : (x ≡ i → ⊥) → (x < i → ⊥) → i + 1 ≤ x
+        rest n k = omega arith
 
 or-nothing : (a b c : Bool) → (a || (b && (c && false))) ≡ a
 or-nothing true b c = refl

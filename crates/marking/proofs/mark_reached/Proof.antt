@@ -1,12 +1,12 @@
 -- `mark_reached` goes through the steps after the starting one.
-use Rattle.phases.proofs.AddLaws.{reached-kit as kit, added-more}
-use Rattle.phases.specs.Phases.{Added, reachesAt}
+use Rattle.marking.proofs.AddLaws.{reached-kit as kit, added-more}
+use Rattle.marking.specs.Marking.{Added, reachesAt}
 use lib.ListN.{length}
 use mathlib.Core.Path.{_≡_}
 use Prim.Native.Nat.{_≤_, _<_, _-_}
 use borrow.Author.Needs.{needs}
-use Rattle.phases.proofs.prefixes.mark_reached.Statement.{statement}
-use Rattle.phases.proofs.prefixes.mark_reached.Tie as tie
+use Rattle.marking.proofs.mark_reached.Statement.{statement}
+use Rattle.marking.proofs.mark_reached.Tie as tie
 
 abbrev Inv-loop : tie.InvT-loop
 Inv-loop pattern bead u n states prefixes₀ v₀ prefixes v = (u < v) × (v ≤ n) × (1024 ≤ length prefixes) × (length prefixes ≡ length prefixes₀) × Added (reachesAt pattern bead states) bead u v prefixes₀ prefixes

@@ -1,8 +1,8 @@
 -- `reaches_all` looks for an accepting state and for another one.
-use Rattle.passes.proofs.ReachLaws.{all-kit as kit}
+use Rattle.marking.proofs.ReachLaws.{all-kit as kit}
 use borrow.Author.Needs.{needs}
-use Rattle.passes.proofs.reaches_all.Statement.{statement}
-use Rattle.passes.proofs.reaches_all.Tie as tie
+use Rattle.marking.proofs.reaches_all.Statement.{statement}
+use Rattle.marking.proofs.reaches_all.Tie as tie
 
 add-overlaps : tie.Need-add-overlaps
 add-overlaps c = search (needs, kit)
