@@ -113,12 +113,19 @@ static int reaches(const struct judging *j, unsigned bead, unsigned set) {
     return (set & final) != 0;
 }
 
+/* Has every step after u the bead already? */
+static int all_marked(const struct judging *j, unsigned bead, unsigned u) {
+    unsigned v = j->steps;
+    while (u + 1 < v && j->prefixes[v - 1] >> bead & 1) v--;
+    return v <= u + 1;
+}
+
 static void mark_prefixes(struct judging *j) {
     uint16_t states[MOST_STEPS];
     for (unsigned k = 0; k < j->beads; k++) {
         fill_table(j, k);
         for (unsigned u = 0; u < j->steps; u++) {
-            if (!prefix_at(j, k, u)) continue;
+            if (!prefix_at(j, k, u) || all_marked(j, k, u)) continue;
             forward_pass(j, u, states);
             for (unsigned v = u + 1; v < j->steps; v++) {
                 if (reaches(j, k, states[v])) j->prefixes[v] |= 1u << k;

@@ -1,18 +1,18 @@
 -- A bead added to the sets of vertices, vertex by vertex.
-use Prim.Native.Nat.{ℕ, _+_, _≤_, _<_}
+use Prim.Native.Nat.{ℕ, _+_, _-_, _≤_, _<_}
 use mathlib.Core.Path.{_≡_, refl, sym, ap, _∙_}
 use mathlib.Core.Bool.{Bool, true, false, cond, _&&_, _||_}
 use mathlib.Core.List.{List}
 use native.Mathlib.Decide.{ℕ-discrete, decLt}
 use native.Mathlib.Omega.{arith}
-use borrow.Author.Tests.{lt-ltb, le-ltb}
+use borrow.Author.Tests.{lt-ltb, le-ltb, ne-eqb}
 use lib.Dec.{ltb, eqb}
 use lib.ListN.{length, getD, set}
 use lib.Seq.{getD-set-same, getD-set-other}
 use Rattle.sets.specs.Sets.{member, singleton, union}
 use Rattle.sets.proofs.Laws.{member-union, member-singleton, union-below}
 use Rattle.passes.specs.Passes.{BeadIn}
-use Rattle.marking.specs.Marking.{reachesBy, reachesAt, markedIf, Added}
+use Rattle.marking.specs.Marking.{reachesBy, reachesAt, markedIf, Added, MarkedAfter}
 
 -- ---- one vertex
 
@@ -138,3 +138,50 @@ module _ (pattern states : List ℕ) (k u v : ℕ) (old l : List ℕ) (a : Added
           one j w h (no n) = ap (member j) (getD-set-other l v w r 0 n) ∙ a .sets j w h ∙ same j w n
 
 pub ruleset reached-kit = (added-first, added-end, added-more)
+
+-- ---- every vertex after u has the bead
+
+-- The vertices from v on have it.
+pub record MarkedFrom (k v m : ℕ) (prefixes : List ℕ) : Type 0 where
+  pub marked : (w : ℕ) → v ≤ w → w < m → member k (getD prefixes w 0) ≡ true
+
+pub from-none : (k m : ℕ) (prefixes : List ℕ) → MarkedFrom k m m prefixes
+from-none k m prefixes = record { marked = λ w h l. absurd (omega arith) }
+
+module _ (k u m v : ℕ) (prefixes : List ℕ) (inv : MarkedFrom k v m prefixes) where
+  pub from-lacks : MarkedAfter k u m prefixes false
+  from-lacks = record { marked = λ e. let z : _≡_ {A = ℕ} 0 1 = cc in absurd (omega arith) }
+
+  pub from-more : u + 1 < v → (t : Bool) → t ≡ member k (getD prefixes (v - 1) 0) → t ≡ true → MarkedFrom k (v - 1) m prefixes
+  from-more p t e y = record { marked = λ w h l. go w h l (ℕ-discrete w (v - 1)) }
+    where
+      go : (w : ℕ) → v - 1 ≤ w → w < m → Dec (w ≡ v - 1) → member k (getD prefixes w 0) ≡ true
+      go w h l (yes z) = rw z (sym e ∙ y)
+      go w h l (no n) = inv .marked w (omega arith) l
+
+  pub from-all : v ≤ u + 1 → MarkedAfter k u m prefixes true
+  from-all h = record { marked = λ e w l r. inv .marked w (omega arith) r }
+
+pub ruleset after-kit = (from-none, from-lacks, from-more, from-all)
+
+-- then nothing is left to add
+pub added-all : (f : ℕ → Bool) (k u m : ℕ) (old : List ℕ) (r : Bool) → MarkedAfter k u m old r → r ≡ true → Added f k u m old old
+added-all f k u m old r a e = record { few = λ g. g; sets = λ j v l. sym (go j v (ℕ-discrete j k) (decLt u v) (decLt v m)) }
+  where
+    or-false : (c : Bool) → (c || false) ≡ c
+    or-false true = refl
+    or-false false = refl
+
+    and-false : (c : Bool) → (c && false) ≡ false
+    and-false true = refl
+    and-false false = refl
+
+    go : (j v : ℕ) → Dec (j ≡ k) → Dec (u < v) → Dec (v < m) → (member j (getD old v 0) || (eqb j k && (ltb u v && (ltb v m && f v)))) ≡ member j (getD old v 0)
+    go j v (yes z) (yes h) (yes l) = rw (z, a .marked e v h l)
+    go j v (yes z) (yes h) (no l) =
+        ap (λ (c : Bool). member j (getD old v 0) || (eqb j k && (ltb u v && (c && f v)))) (le-ltb v m (omega arith))
+        ∙ ap (λ (c : Bool). member j (getD old v 0) || (eqb j k && c)) (and-false (ltb u v)) ∙ ap (λ (c : Bool). member j (getD old v 0) || c) (and-false (eqb j k)) ∙ or-false _
+    go j v (yes z) (no h) d =
+        ap (λ (c : Bool). member j (getD old v 0) || (eqb j k && (c && (ltb v m && f v)))) (le-ltb u v (omega arith))
+        ∙ ap (λ (c : Bool). member j (getD old v 0) || c) (and-false (eqb j k)) ∙ or-false _
+    go j v (no n) b d = ap (λ (c : Bool). member j (getD old v 0) || (c && (ltb u v && (ltb v m && f v)))) (ne-eqb j k n) ∙ or-false _

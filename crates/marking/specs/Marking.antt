@@ -1,7 +1,7 @@
 -- Which steps a bead reaches from a starting step, by their sets in a forward pass, and what is marked of that.
 use Prim.Native.Nat.{ℕ, _<_}
 use mathlib.Core.Path.{_≡_}
-use mathlib.Core.Bool.{Bool, cond, not, _&&_, _||_}
+use mathlib.Core.Bool.{Bool, true, cond, not, _&&_, _||_}
 use mathlib.Core.List.{List}
 use lib.Dec.{eqb, ltb}
 use lib.ListN.{getD, set}
@@ -30,3 +30,7 @@ markedIf b k v prefixes = cond b (set prefixes v (union 16 (getD prefixes v 0) (
 pub record Added (f : ℕ → Bool) (k u m : ℕ) (old new : List ℕ) : Type 0 where
   pub few : ((v : ℕ) → getD old v 0 < 65536) → (v : ℕ) → getD new v 0 < 65536
   pub sets : (j v : ℕ) → j < 16 → member j (getD new v 0) ≡ (member j (getD old v 0) || (eqb j k && (ltb u v && (ltb v m && f v))))
+
+-- If so, each vertex above u and below m has the bead k in its set.
+pub record MarkedAfter (k u m : ℕ) (prefixes : List ℕ) (r : Bool) : Type 0 where
+  pub marked : r ≡ true → (v : ℕ) → u < v → v < m → member k (getD prefixes v 0) ≡ true

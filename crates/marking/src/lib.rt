@@ -3,7 +3,7 @@ ghost use mathlib.Core.Path.{_≡_};
 ghost use Prim.Native.Nat.{_<_, _≤_};
 ghost use lib.ListN.{length};
 ghost use Rattle.passes.specs.Passes.{BeadIn};
-ghost use Rattle.marking.specs.Marking.{reachesAll, reachesBy, reachesAt, markedIf, Added};
+ghost use Rattle.marking.specs.Marking.{reachesAll, reachesBy, reachesAt, markedIf, Added, MarkedAfter};
 
 // Does an ALL bead reach the step that has this set in a forward pass? The set has an accepting state, and no other.
 fn reaches_all(pattern: &[u16], bead: usize, set: u16) -> bool
@@ -67,4 +67,21 @@ pub fn mark_reached(
         mark_at(pattern, bead, v, states, prefixes);
         v += 1;
     }
+}
+
+// Has every step after u the bead already? From the last one down, because late steps are the ones that lack it longest.
+pub fn all_marked(bead: usize, u: usize, n: usize, prefixes: &[u16]) -> bool
+    requires { ⌜ (bead < 16) × (u < n) × (n ≤ 1024) × (1024 ≤ length (now prefixes)) ⌝ }
+    ensures { λ r. ⌜ MarkedAfter bead u n (now (prefixes .entry)) r ⌝ }
+{
+    let mut v = n;
+    while u + 1 < v {
+        let there = sets::member(prefixes[v - 1], bead as u16);
+        if there {
+            v -= 1;
+        } else {
+            return false;
+        }
+    }
+    true
 }

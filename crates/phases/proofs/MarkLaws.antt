@@ -26,7 +26,7 @@ use Rattle.phases.specs.Phases.{Tried, Turns, TurnOf, TableAt, Unmarked,
 use Rattle.phases.proofs.PrefixPhase.{marked-none, marked-turn, marked-all, marked-earlier}
 use Rattle.marking.specs.Marking.{reachesAt, Added}
 use Rattle.marking.proofs.ReachLaws.{reaches-satisfies}
-use Rattle.marking.proofs.AddLaws.{added-ext, added-none}
+use Rattle.marking.proofs.AddLaws.{added-ext, added-none, added-all}
 
 -- ---- what the tests give
 
@@ -179,6 +179,9 @@ module _ (pattern log : List ℕ) (n k u : ℕ) (t : TurnOf pattern log n k u) w
   pub turn-place : k < 8
   turn-place = turn-bead .place
 
+  pub turn-bit : k < 16
+  turn-bit = let h = turn-bead .place in omega arith
+
   pub turn-table : (work : List ℕ) → TableAt pattern log k u work → (u ≡ 0 → ⊥) → Tabled (logOf log) (automatonOf pattern k) (stepsIn log) work
   turn-table work a h = a .table h
 
@@ -214,6 +217,8 @@ module _ (pattern log : List ℕ) (n k u : ℕ) (t : TurnOf pattern log n k u) w
         same v = rw (← held, y) refl
 
 pub ruleset from-kit = (turn-bead, turn-laid, turn-start, turn-below, turn-few, reached-satisfies)
+
+pub ruleset done-kit = (turn-bit, turn-below, turn-few, added-all)
 
 pub ruleset served-kit = (turn-place, turn-inside, served-yes, served-no)
 

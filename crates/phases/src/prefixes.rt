@@ -10,7 +10,7 @@ ghost use Rattle.phases.specs.Phases.{Tried, Turns, TurnOf, TableAt, Mar
 use crate::wide;
 
 // Adds the bead to the prefixes of the steps on which it holds from u: one forward pass.
-fn mark_from(
+fn pass_from(
     pattern: &[u16],
     log: &[u16],
     bead: usize,
@@ -27,6 +27,28 @@ fn mark_from(
     let mut states = [0u16; 1024];
     forward::forward_pass(log, work, u, &mut states);
     marking::mark_reached(pattern, bead, u, n, &states, prefixes);
+}
+
+// The same, without a pass where every later step has the bead already.
+fn mark_from(
+    pattern: &[u16],
+    log: &[u16],
+    bead: usize,
+    u: usize,
+    n: usize,
+    prefixes: &mut [u16],
+    work: &[u16],
+)
+    requires { ⌜ TurnOf (now pattern) (now log) n bead u ⌝ }
+    requires { ⌜ Tabled (logOf (now log)) (automatonOf (now pattern) bead) (stepsIn (now log)) (now work) ⌝ }
+    requires { ⌜ (1024 ≤ length (now prefixes)) × (16384 ≤ length (now work)) ⌝ }
+    ensures { λ _. ⌜ Added (satisfiesFrom (logOf (now (log .entry))) (patternOf (now (pattern .entry))) bead u) bead u n (now (prefixes .entry)) (now (prefixes .exit)) ⌝ }
+{
+    let done = marking::all_marked(bead, u, n, prefixes);
+    if done {
+        return;
+    }
+    pass_from(pattern, log, bead, u, n, prefixes, work);
 }
 
 // Adds the bead to the prefixes of the steps before which u serves as the pivot: none, unless the earlier beads hold at u.

@@ -1,34 +1,28 @@
--- `mark_from` marks by the sets of the forward pass.
-use Rattle.phases.proofs.MarkLaws.{from-kit as kit}
+-- Where every later step has the bead, nothing is left to add.
 use borrow.Author.Needs.{needs}
+use Rattle.phases.proofs.MarkLaws.{done-kit}
 use Rattle.phases.proofs.prefixes.mark_from.Statement.{statement}
 use Rattle.phases.proofs.prefixes.mark_from.Tie as tie
 
-slice-aggregate-forward-pass : tie.Need-slice-aggregate-forward-pass
-slice-aggregate-forward-pass c = search (needs, kit)
-
-forward-pass-requires : tie.Need-forward-pass-requires
-forward-pass-requires c κs = search (needs, kit)
-
-slice-aggregate-mark-reached : tie.Need-slice-aggregate-mark-reached
-slice-aggregate-mark-reached c = search (needs, kit)
-
-mark-reached-requires : tie.Need-mark-reached-requires
-mark-reached-requires c κs = (search (needs, kit), (search (needs, kit), search (needs, kit), search needs, search needs))
+all-marked-requires : tie.Need-all-marked-requires
+all-marked-requires c κs = search (needs, done-kit)
 
 same-length : tie.Need-same-length
-same-length c = search (needs, kit)
+same-length c = search (needs, done-kit)
 
 returns : tie.Need-returns
-returns c = search (needs, kit)
+returns c = search (needs, done-kit)
+
+pass-from-requires : tie.Need-pass-from-requires
+pass-from-requires c κs = search (needs, done-kit)
+
+same-length-2 : tie.Need-same-length-2
+same-length-2 c = search (needs, done-kit)
+
+returns-2 : tie.Need-returns-2
+returns-2 c = search (needs, done-kit)
 
 pub mark-from-spec : {M : Type 1} → statement M
 mark-from-spec =
     tie.close
-    (tie.spec
-    slice-aggregate-forward-pass
-    forward-pass-requires
-    slice-aggregate-mark-reached
-    mark-reached-requires
-    same-length
-    returns)
+    (tie.spec all-marked-requires same-length returns pass-from-requires same-length-2 returns-2)
