@@ -166,6 +166,10 @@ marked =
     ∷ record { pattern = some-clean; log = labels-five; step = 1; numbers = ten (1 ∷ 0 ∷ 1 ∷ []) }
     ∷ []
 
+pub marked-count : length marked ≡ 12
+unfolding marked
+marked-count = refl
+
 -- ---- the claim
 
 abbrev frontRowUnder : PatternKnown → Outcome LogKnown → ℕ → List ℕ

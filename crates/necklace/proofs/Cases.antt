@@ -2,7 +2,7 @@
 use Prim.Native.Nat.{ℕ}
 use mathlib.Core.Path.{_≡_, refl}
 use mathlib.Core.List.{List, [], _∷_, _++_, map}
-use lib.ListN.{take, replicate}
+use lib.ListN.{length, take, replicate}
 use Rattle.sets.specs.Sets.{setOf, someBelow}
 use Rattle.necklace.specs.Automaton.{Automaton}
 use Rattle.necklace.specs.Necklace.{SOME, ALL, Primitive}
@@ -78,6 +78,10 @@ cases =
     ∷ row-of-one (0 ∷ 2 ∷ []) (bead SOME second-automaton) (1 ∷ 0 ∷ 1 ∷ [])
     ∷ []
 
+pub cases-count : length cases ≡ 12
+unfolding cases
+cases-count = refl
+
 -- Each case marked P has its ten numbers.
 pub marked : map rowOf cases ≡ map (λ c. c .numbers) cases
 unfolding cases row prefixes pivots before seek holds? some? all? backward pass setOf someBelow
@@ -104,6 +108,10 @@ slips =
       numbers = ten (3 ∷ 0 ∷ 1 ∷ 3 ∷ []);
     })
     ∷ []
+
+pub slips-count : length slips ≡ 3
+unfolding slips
+slips-count = refl
 
 pub slips-avoided : map rowOf slips ≡ map (λ c. c .numbers) slips
 unfolding slips row prefixes pivots before seek holds? some? all? backward pass setOf someBelow

@@ -1,4 +1,5 @@
 pub mod Cases
+pub mod CasesOfPasts
 pub mod Lists
 pub mod Paths
 pub mod Backward
@@ -11,3 +12,4 @@ pub mod OnlyAdds
 pub mod Duality
 pub mod Tests
 pub mod CasesWellFormed
+pub mod CasesOfPastsMeaning
