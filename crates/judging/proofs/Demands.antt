@@ -120,6 +120,7 @@ module _ (pattern log₁ result₁ work₁ log₂ result₂ work₂ : List ℕ) 
   only-adds-all r f x = adds .1 (rw r) (λ y. f (rw first y)) (rw second at x)
 
 -- The dual property: at a step other than 0, SOME is the denial of ALL with final and other states exchanged.
+-- `Exchanges.dual-every` says it of every pattern that has such a partner.
 module _ (p q log result work : List ℕ) (x : Exchanged (take patternLength p) (take patternLength q))
     (t : T (accepts p log result work)) (u : T (accepts q log result work)) (v : ℕ) (h : v < logIn log .size) (z : v ≢ 0) where
   some-bead : patternIn p .bead 0 .modality ≡ SOME

@@ -1,5 +1,6 @@
 pub mod Calls
 pub mod Demands
+pub mod Exchanges
 pub mod Whole
 pub mod Cases
 pub mod Rows

@@ -3,7 +3,7 @@ use Prim.Native.Nat.{ℕ, zero, suc, _+_, _-_, _*_, _≤_}
 use mathlib.Core.Path.{_≡_}
 use mathlib.Core.Bool.{Bool, cond}
 use mathlib.Core.List.{List}
-use lib.ListN.{getD, take, drop}
+use lib.ListN.{getD, set, take, drop}
 use Rattle.sets.specs.Sets.{member, complement}
 use Rattle.pattern_line.specs.Limits.{ruleAt, statesAt, acceptingAt}
 use Rattle.pattern_buffer.specs.Meaning.{at, labelsIn, beadsIn}
@@ -32,3 +32,8 @@ pub record Exchanged (p q : List ℕ) : Type 0 where
   pub states : at q (statesAt 0) ≡ at p (statesAt 0)
   pub next : (i : ℕ) → 26 ≤ i → at q i ≡ at p i
   pub accepting : at q (acceptingAt 0) ≡ complement (at p (statesAt 0)) (at p (acceptingAt 0))
+
+-- Such a partner of a pattern buffer of one bead: the other rule (1 for 2, 2 for 1), final and other states exchanged, all else as it is.
+unfoldable pub exchangedBuffer : List ℕ → List ℕ
+exchangedBuffer p =
+    set (set p (ruleAt 0) (3 - at p (ruleAt 0))) (acceptingAt 0) (complement (at p (statesAt 0)) (at p (acceptingAt 0)))
