@@ -90,7 +90,7 @@ labels-five =
 
 -- ---- the pattern buffer once more, laid out from the front, which computes in steps as many as its numbers
 
-unfoldable tableUp : (ℕ → ℕ) → ℕ → ℕ → List ℕ
+unfoldable pub tableUp : (ℕ → ℕ) → ℕ → ℕ → List ℕ
 tableUp f i zero = []
 tableUp f i (suc d) = f i ∷ tableUp f (suc i) d
 
@@ -108,7 +108,7 @@ up-at f i (suc d) (suc j) h = let e : suc i + j ≡ i + suc j = omega arith in u
 up-is : (f : ℕ → ℕ) (n : ℕ) → table f n ≡ tableUp f 0 n
 up-is f n = table-is f n (tableUp f 0 n) (up-length f 0 n) (λ j h. up-at f 0 n j h ∙ ap f (zero-add j))
 
-unfoldable frontBuffer : PatternKnown → List ℕ
+unfoldable pub frontBuffer : PatternKnown → List ℕ
 frontBuffer k =
     (k .labels ∷ (beadCount (k .rows) ∷ []))
     ++ (tableUp (λ j. ruleOfBead (k .rows) (j + 1)) 0 8
@@ -144,7 +144,7 @@ rowBy (faulty number line) log v = []
 abbrev pub rowOfTexts : List ℕ → List ℕ → ℕ → List ℕ
 rowOfTexts pattern log v = rowBy (patternText pattern) log v
 
-abbrev ten : List ℕ → List ℕ
+abbrev pub ten : List ℕ → List ℕ
 ten xs = take 10 (xs ++ replicate 10 0)
 
 abbrev listed : ℕ → List ℕ → Case
@@ -172,11 +172,11 @@ marked-count = refl
 
 -- ---- the claim
 
-abbrev frontRowUnder : PatternKnown → Outcome LogKnown → ℕ → List ℕ
+abbrev pub frontRowUnder : PatternKnown → Outcome LogKnown → ℕ → List ℕ
 frontRowUnder k (accepted m) v = row (logOf (logBuffer (m .steps))) (patternOf (frontBuffer k)) v
 frontRowUnder k (faulty number line) v = []
 
-abbrev frontRowBy : Outcome PatternKnown → List ℕ → ℕ → List ℕ
+abbrev pub frontRowBy : Outcome PatternKnown → List ℕ → ℕ → List ℕ
 frontRowBy (accepted k) log v = frontRowUnder k (logText (k .labels) log) v
 frontRowBy (faulty number line) log v = []
 
@@ -188,10 +188,13 @@ same-row : (o : Outcome PatternKnown) (log : List ℕ) (v : ℕ) → rowBy o log
 same-row (accepted k) log v = same-under k (logText (k .labels) log) v
 same-row (faulty number line) log v = refl
 
+pub rows-same : (cs : List Case) → map (λ c. rowOfTexts (c .pattern) (c .log) (c .step)) cs ≡ map (λ c. frontRowBy (patternText (c .pattern)) (c .log) (c .step)) cs
+rows-same cs = ap (λ (f : Case → List ℕ). map f cs) (fun-ext (λ c. same-row (patternText (c .pattern)) (c .log) (c .step)))
+
 computed : map (λ c. frontRowBy (patternText (c .pattern)) (c .log) (c .step)) marked ≡ map (λ c. c .numbers) marked
 unfolding marked listing-pattern all-clean some-clean some-vented listing-log start-alone bare-step labels-five walk asLines split printable sameBytes digits valueFrom decimal sameFields nameBytes areNames among distinct areNumbersIn followsLast breaksTurns statesOf allWithin allSingle membersFrom placeOf areNumbers risingBelow linkCount begins links tableUp frontBuffer beadCount ruleOfBead acceptingOf nextOf setOf someBelow logOf patternOf row prefixes pivots before seek holds? some? all? backward pass
 computed = refl
 
 -- Each case marked P has its ten numbers.
 pub cases : map (λ c. rowOfTexts (c .pattern) (c .log) (c .step)) marked ≡ map (λ c. c .numbers) marked
-cases = ap (λ (f : Case → List ℕ). map f marked) (fun-ext (λ c. same-row (patternText (c .pattern)) (c .log) (c .step))) ∙ computed
+cases = rows-same marked ∙ computed

@@ -3,6 +3,7 @@ pub mod Demands
 pub mod Exchanges
 pub mod Whole
 pub mod Cases
+pub mod CasesOfPasts
 pub mod Rows
 pub mod JudgeLaws
 pub mod FitLaws
