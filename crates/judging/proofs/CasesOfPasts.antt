@@ -43,7 +43,7 @@ use Rattle.judging.specs.Demands.{rowIn, ruleHolds}
 use Rattle.judging.proofs.Calls.{accepted-call}
 use Rattle.judging.proofs.Whole.{whole, whole-row}
 use Rattle.judging.proofs.Demands.{equal-pasts, only-adds-some}
-use Rattle.judging.proofs.Cases.{listing-pattern, all-clean, some-clean, listing-log, Case, rowUnder, rowBy, rowOfTexts, ten, tableUp, frontBuffer, frontRowBy, rows-same}
+use Rattle.judging.proofs.Cases.{listing-pattern, some-clean, listing-log, Case, rowUnder, rowBy, rowOfTexts, ten, tableUp, frontBuffer, frontRowBy, rows-same}
 
 -- The listing's log without its last step, with another board at each step, and with other labels and links at steps 2 and 4: the past of
 -- step 5, which is 0, 1, 3 and 5, is as it was.
@@ -132,22 +132,20 @@ adds-computed : onlyAdds? (logOf (logFrom listing-log)) (logOf (logFrom more-log
 unfolding listing-log more-log walk asLines split printable sameBytes digits valueFrom decimal placeOf areNumbers risingBelow linkCount begins links membersFrom allBelow logOf onlyAdds?
 adds-computed = refl
 
--- The rows: the listing's own at step 5 is among the marked cases. What is added keeps SOME at step 3, and takes ALL away.
+-- The rows; the listing's own at step 5 is among the marked cases.
 unfoldable pub shown : List Case
 shown =
     record { pattern = listing-pattern; log = shorter-log; step = 5; numbers = ten (2 ∷ 0 ∷ 1 ∷ 5 ∷ []) }
     ∷ record { pattern = some-clean; log = listing-log; step = 3; numbers = ten (1 ∷ 0 ∷ 3 ∷ []) }
     ∷ record { pattern = some-clean; log = more-log; step = 3; numbers = ten (1 ∷ 0 ∷ 3 ∷ []) }
-    ∷ record { pattern = all-clean; log = listing-log; step = 3; numbers = ten (1 ∷ 0 ∷ 3 ∷ []) }
-    ∷ record { pattern = all-clean; log = more-log; step = 3; numbers = ten (0 ∷ []) }
     ∷ []
 
-pub shown-count : length shown ≡ 5
+pub shown-count : length shown ≡ 3
 unfolding shown
 shown-count = refl
 
 front-shown : map (λ c. frontRowBy (patternText (c .pattern)) (c .log) (c .step)) shown ≡ map (λ c. c .numbers) shown
-unfolding shown listing-pattern all-clean some-clean listing-log shorter-log more-log walk asLines split printable sameBytes digits valueFrom decimal placeOf areNumbers risingBelow linkCount begins links sameFields nameBytes areNames among distinct areNumbersIn followsLast breaksTurns statesOf allWithin allSingle beadCount membersFrom tableUp frontBuffer ruleOfBead acceptingOf nextOf setOf someBelow logOf patternOf row prefixes pivots before seek holds? some? all? backward pass
+unfolding shown listing-pattern some-clean listing-log shorter-log more-log walk asLines split printable sameBytes digits valueFrom decimal placeOf areNumbers risingBelow linkCount begins links sameFields nameBytes areNames among distinct areNumbersIn followsLast breaksTurns statesOf allWithin allSingle beadCount membersFrom tableUp frontBuffer ruleOfBead acceptingOf nextOf setOf someBelow logOf patternOf row prefixes pivots before seek holds? some? all? backward pass
 front-shown = refl
 
 pub shown-rows : map (λ c. rowOfTexts (c .pattern) (c .log) (c .step)) shown ≡ map (λ c. c .numbers) shown
