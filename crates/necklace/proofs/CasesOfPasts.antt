@@ -74,8 +74,9 @@ against second v is = record { first = listing; second = second; v = v; is = is 
 unfoldable pub alike-cases : List AlikeCase
 alike-cases =
     against listing 4 true
-    -- fewer vertices, more vertices
+    -- fewer vertices, one, more
     ∷ against (take 6 listing) 5 true
+    ∷ against (take 1 listing) 0 true
     ∷ against (listing ++ ((0 ∷ [], 5 ∷ 6 ∷ []) ∷ [])) 5 true
     -- v is a vertex of one only
     ∷ against (take 6 listing) 6 false
@@ -96,7 +97,7 @@ alike-cases =
     ∷ against (changed 2 (2 ∷ 2 ∷ []) (1 ∷ 0 ∷ 1 ∷ [])) 4 true
     ∷ []
 
-pub alike-cases-count : length alike-cases ≡ 14
+pub alike-cases-count : length alike-cases ≡ 15
 unfolding alike-cases
 alike-cases-count = refl
 
