@@ -6,12 +6,16 @@ fn main() {
     let mut pattern = [0; 2074];
     let mut result = [0; 10240];
     let mut work = [0; 16384];
-    judge_files::run(
+    let mut output = [0; 65536];
+    let printed = judge_files::run(
         &mut pattern_text,
         &mut log_text,
         &mut pattern,
         &mut log,
         &mut result,
         &mut work,
+        &mut output,
     );
+    let length = printed.length;
+    io::write_all(libc::STDOUT_FILENO, &output[..length]);
 }

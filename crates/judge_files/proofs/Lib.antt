@@ -1,3 +1,3 @@
 pub mod FileLaws
-pub mod LineLaws
-pub mod LoadLaws
+pub mod OutputLaws
+pub mod Whole

@@ -1,10 +1,13 @@
 -- What `judge` answers, and what it leaves in the lent buffers, by the texts of its two files (document 01, "Who is at fault": it
--- reads the pattern first). What a file holds is not known here: its text is so many bytes at the start of a text buffer.
-use Prim.Native.Nat.{ℕ, _≤_}
+-- reads the pattern first). What a file holds is not known here: its text is so many bytes at the start of a text buffer, which has a
+-- place more than the longest text, so that a text that is cut off at the buffer's end is refused (`pattern-whole`, `log-whole`).
+use Prim.Native.Nat.{ℕ, suc, _≤_}
 use mathlib.Core.List.{List}
 use mathlib.Core.Path.{_≡_}
 use lib.ListN.{length, getD, take}
 use Rattle.answer.specs.declared.Answer.{Answer}
+use Rattle.pattern_line.specs.Limits.{mostText as patternMost}
+use Rattle.log_line.specs.Limits.{mostText as logMost}
 use Rattle.pattern.specs.Buffer.{patternAnswer, patternAfter}
 use Rattle.log.specs.Buffer.{logAnswer, logAfter}
 use Rattle.judging.specs.Judge.{judgeAnswer, resultAfter, workAfter}
@@ -44,3 +47,8 @@ pub data Run (patternText logText pattern log result work : List ℕ) (r : Answe
       (a : Answer) → PatternRead patternText pattern a pattern′ → a .number ≡ 0
       → LogJudged logText pattern′ log result work r log′ result′ work′
       → Run patternText logText pattern log result work r pattern′ log′ result′ work′
+
+-- Each text buffer has a place more than the longest text.
+pub record TextRooms (patternText logText : List ℕ) : Type 0 where
+  pub pattern-room : length patternText ≡ suc patternMost
+  pub log-room : length logText ≡ suc logMost

@@ -1,2 +1,2 @@
 pub mod Files
-pub mod Lines
+pub mod Output

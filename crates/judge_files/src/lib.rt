@@ -1,19 +1,49 @@
-// The body of the program `judge`: two files in, lines out.
-mod load;
-mod print;
-
+// The body of the program `judge`: two files in, and all that is to be printed out, as bytes.
 ghost use mathlib.Core.Path.{_≡_};
 ghost use lib.ListN.{getD};
-ghost use Rattle.judging.specs.Judge.{judgeAnswer, resultAfter, workAfter};
-ghost use Rattle.judge_files.specs.Files.{PatternRead, LogRead, LogJudged, Run};
+ghost use Rattle.pattern_buffer.specs.Meaning.{beadsIn};
+ghost use Rattle.log_buffer.specs.Meaning.{stepsIn};
+ghost use Rattle.report.specs.Report.{outputText};
+ghost use Rattle.judge_files.specs.Files.{PatternRead, LogRead, LogJudged, Run, TextRooms};
+ghost use Rattle.judge_files.specs.Output.{AtFront};
 use answer::Answer;
-use load::load;
-use print::print_refusal;
-use print::print_rows;
+use loading::load;
 
-// Judges `log.txt` by `pattern.txt`, both in the working directory, and prints the rows, or the first
-// refusal. A pattern that is refused means that the log is not opened.
+// The answer, and how many bytes of the output there are to print.
+pub struct Output {
+    pub answer: Answer,
+    pub length: usize,
+}
+
+// Judges `log.txt` by `pattern.txt`, both in the working directory, and lays out the rows, or the
+// line of the first refusal, at the front of the output. A pattern that is refused means that the
+// log is not opened. Each text buffer is a byte longer than the longest text, so that a text that
+// is too long is seen.
 pub fn run(
+    patterntext: &mut [u8; 16385],
+    logtext: &mut [u8; 65536],
+    pattern: &mut [u16; 2074],
+    log: &mut [u16; 7170],
+    result: &mut [u16; 10240],
+    work: &mut [u16; 16384],
+    output: &mut [u8; 65536],
+) -> Output
+    ensures { λ _. ⌜ TextRooms (now (patterntext .exit)) (now (logtext .exit)) ⌝ }
+    ensures { λ r. ⌜ Run (now (patterntext .exit)) (now (logtext .exit)) (now (pattern .entry)) (now (log .entry)) (now (result .entry)) (now (work .entry)) (r .answer) (now (pattern .exit)) (now (log .exit)) (now (result .exit)) (now (work .exit)) ⌝ }
+    ensures { λ r. ⌜ AtFront (outputText (r .answer) (beadsIn (now (pattern .exit))) (stepsIn (now (log .exit))) (now (result .exit))) (now (output .entry)) (r .length) (now (output .exit)) ⌝ }
+{
+    let answer = judge_texts(patterntext, logtext, pattern, log, result, work);
+    if answer.number == 0 {
+        let beads = pattern[1];
+        let steps = log[0];
+        let length = report::put_rows(output, beads, steps, result);
+        return Output { answer, length };
+    }
+    let length = report::put_refusal(output, 0, answer);
+    Output { answer, length }
+}
+
+fn judge_texts(
     patterntext: &mut [u8],
     logtext: &mut [u8],
     pattern: &mut [u16],
@@ -25,16 +55,14 @@ pub fn run(
 {
     let first = read_pattern_file(patterntext, pattern);
     if first.number == 0 {
-        return judge_log_file(logtext, pattern, first.count, log, result, work);
+        return judge_log_file(logtext, pattern, log, result, work);
     }
-    print_refusal(first);
     first
 }
 
 fn judge_log_file(
     text: &mut [u8],
     pattern: &[u16],
-    beads: u16,
     log: &mut [u16],
     result: &mut [u16],
     work: &mut [u16],
@@ -43,31 +71,9 @@ fn judge_log_file(
 {
     let read = read_log_file(text, pattern, log);
     if read.number == 0 {
-        return judge_and_print(pattern, beads, log, read.count, result, work);
+        return judging::judge(pattern, log, result, work);
     }
-    print_refusal(read);
     read
-}
-
-fn judge_and_print(
-    pattern: &[u16],
-    beads: u16,
-    log: &[u16],
-    steps: u16,
-    result: &mut [u16],
-    work: &mut [u16],
-) -> Answer
-    ensures { λ r. ⌜ r ≡ judgeAnswer (now (pattern .entry)) (now (log .entry)) (now (result .entry)) (now (work .entry)) ⌝ }
-    ensures { λ _. ⌜ now (result .exit) ≡ resultAfter (now (pattern .entry)) (now (log .entry)) (now (result .entry)) (now (work .entry)) ⌝ }
-    ensures { λ _. ⌜ now (work .exit) ≡ workAfter (now (pattern .entry)) (now (log .entry)) (now (result .entry)) (now (work .entry)) ⌝ }
-{
-    let judged = judging::judge(pattern, log, result, work);
-    if judged.number == 0 {
-        print_rows(beads, steps, result);
-        return judged;
-    }
-    print_refusal(judged);
-    judged
 }
 
 fn read_pattern_file(text: &mut [u8], pattern: &mut [u16]) -> Answer

@@ -1,3 +1,4 @@
-pub mod WrittenLaws
 pub mod LineLaws
+pub mod RowsLaws
+pub mod Fits
 pub mod Listing

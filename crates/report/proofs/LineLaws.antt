@@ -14,15 +14,9 @@ use Rattle.sets.specs.Sets.{member}
 use Rattle.sets.proofs.Bits.{member-add, member-empty}
 use Rattle.text.specs.Split.{joined}
 use Rattle.text.specs.Numbers.{spell}
-use Rattle.report.specs.Report.{pivotsWord, rowText, refusalText}
-use Rattle.report.specs.Written.{Written, listed}
-use Rattle.report.proofs.WrittenLaws.{then, more-put}
-
--- Four texts, each put behind the one before.
-four : (s t u v l m n o new : List ℕ) (i j k r : ℕ) → Written s l i m → Written (take i m ++ t) m j n → Written (take j n ++ u) n k o
-    → Written (take k o ++ v) o r new → Written (s ++ t ++ u ++ v) l r new
-four s t u v l m n o new i j k r a b c d =
-    then (s ++ t ++ u) v l o new k r (then (s ++ t) u l n o j k (then s t l m n i j a b) c) d
+use Rattle.report.specs.Report.{headerText, pivotsWord, rowText, refusalText}
+use Rattle.writing.specs.Put.{Put, listed}
+use Rattle.writing.proofs.PutLaws.{then}
 
 -- ---- whether the whole pattern holds
 
@@ -55,15 +49,22 @@ pivots-part row beads end h e = rw (drop-cons row 1 0 (omega arith)) (ap (λ (t 
 
 module _ (l row : List ℕ) (at beads : ℕ) (holds : Bool) (e : holds ≡ member (beads - 1) (getD row 0 0)) where
   pub pivots-put : (m new : List ℕ) (end k r : ℕ) → holds ≡ true → length row ≡ 10 → end ≡ min (beads + 2) 10
-      → Written (take at l ++ spell (getD row 1 0)) l k m → Written (take k m ++ listed (take (end - 2) (drop 2 row))) m r new
-      → Written (take at l ++ pivotsWord beads row) l r new
+      → Put (spell (getD row 1 0)) at l k m → Put (listed (take (end - 2) (drop 2 row))) k m r new
+      → Put (pivotsWord beads row) at l r new
   pivots-put m new end k r t h f a b =
       rw (sym e ∙ t, pivots-part row beads end h f, joined-listed)
-      (more-put l m new (spell (getD row 1 0)) (listed (take (end - 2) (drop 2 row))) at k r a b)
+      (then (spell (getD row 1 0)) (listed (take (end - 2) (drop 2 row))) l m new at k r a b)
 
-  pub dash-put : (m : List ℕ) (r : ℕ) → holds ≡ false → Written (take at l ++ (45 ∷ [])) l r m
-      → Written (take at l ++ pivotsWord beads row) l r m
+  pub dash-put : (m : List ℕ) (r : ℕ) → holds ≡ false → Put (45 ∷ []) at l r m → Put (pivotsWord beads row) at l r m
   dash-put m r t a = rw (sym e ∙ t) a
+
+pub dash-next : (l m : List ℕ) (at r : ℕ) → Put (45 ∷ []) at l r m → r ≤ at + 54
+dash-next l m at r a = omega (arith, a .next)
+
+-- Room for the pivots behind the first, and where they end.
+pub pivots-room : (row : List ℕ) (at beads end k : ℕ) → end ≡ min (beads + 2) 10 → at + 54 < 2 ^ 64 → k ≤ at + 5
+    → k + 6 * length (take (end - 2) (drop 2 row)) < 2 ^ 64
+pivots-room row at beads end k e h g = omega (arith, length-take (end - 2) (drop 2 row))
 
 pub pivots-next : (row : List ℕ) (at beads end k r : ℕ) → end ≡ min (beads + 2) 10 → k ≤ at + 5
     → r ≤ k + 6 * length (take (end - 2) (drop 2 row)) → r ≤ at + 54
@@ -71,14 +72,32 @@ pivots-next row at beads end k r e h g = omega (arith, length-take (end - 2) (dr
 
 -- ---- lines
 
-pub row-put : (l m n o new row : List ℕ) (beads step i j k r : ℕ) → Written (spell step ++ (32 ∷ [])) l i m
-    → Written (take i m ++ (spell (getD row 0 0) ++ (32 ∷ []))) m j n → Written (take j n ++ pivotsWord beads row) n k o
-    → Written (take k o ++ (10 ∷ [])) o r new → Written (rowText beads step row) l r new
+-- Four texts, each put behind the one before.
+four : (s t u v l m n o new : List ℕ) (at i j k r : ℕ) → Put s at l i m → Put t i m j n → Put u j n k o → Put v k o r new
+    → Put (s ++ t ++ u ++ v) at l r new
+four s t u v l m n o new at i j k r a b c d =
+    then (s ++ t ++ u) v l o new at k r (then (s ++ t) u l n o at j k (then s t l m n at i j a b) c) d
+
+pub row-put : (l m n o new row : List ℕ) (beads step at i j k r : ℕ) → Put (spell step ++ (32 ∷ [])) at l i m
+    → Put (spell (getD row 0 0) ++ (32 ∷ [])) i m j n → Put (pivotsWord beads row) j n k o
+    → Put (10 ∷ []) k o r new → Put (rowText beads step row) at l r new
 unfolding joined
-row-put l m n o new row beads step i j k r a b c d =
+row-put l m n o new row beads step at i j k r a b c d =
     simp append-assoc
     (simp append-assoc
-    at (four (spell step ++ (32 ∷ [])) (spell (getD row 0 0) ++ (32 ∷ [])) (pivotsWord beads row) (10 ∷ []) l m n o new i j k r a b c d))
+    at (four (spell step ++ (32 ∷ [])) (spell (getD row 0 0) ++ (32 ∷ [])) (pivotsWord beads row) (10 ∷ []) l m n o new at i j k r a b c d))
+
+pub row-next : (o new : List ℕ) (at i j k r : ℕ) → i ≤ at + 6 → j ≤ i + 6 → k ≤ j + 54 → Put (10 ∷ []) k o r new → r ≤ at + 67
+row-next o new at i j k r h g f a = omega (arith, a .next)
+
+-- `vertex prefixes pivots`, and its newline
+abbrev headerBytes : List ℕ
+headerBytes =
+    118 ∷ 101 ∷ 114 ∷ 116 ∷ 101 ∷ 120 ∷ 32 ∷ 112 ∷ 114 ∷ 101 ∷ 102 ∷ 105 ∷ 120 ∷ 101 ∷ 115 ∷ 32 ∷ 112 ∷ 105 ∷ 118 ∷ 111 ∷ 116 ∷ 115 ∷ 10 ∷ []
+
+pub header-put : (l new : List ℕ) (at r : ℕ) → Put headerBytes at l r new → Put headerText at l r new
+unfolding joined
+header-put l new at r a = a
 
 -- `refused ` and `line `
 abbrev refusedBytes : List ℕ
@@ -87,13 +106,39 @@ refusedBytes = 114 ∷ 101 ∷ 102 ∷ 117 ∷ 115 ∷ 101 ∷ 100 ∷ 32 ∷ []
 abbrev lineBytes : List ℕ
 lineBytes = 108 ∷ 105 ∷ 110 ∷ 101 ∷ 32 ∷ []
 
-pub refusal-put : (l m n o new : List ℕ) (a : Answer) (i j k r : ℕ) → Written refusedBytes l i m
-    → Written (take i m ++ (spell (a .number) ++ (32 ∷ []))) m j n → Written (take j n ++ lineBytes) n k o
-    → Written (take k o ++ (spell (a .line) ++ (10 ∷ []))) o r new → Written (refusalText a) l r new
+pub refusal-put : (l m n o new : List ℕ) (a : Answer) (at i j k r : ℕ) → Put refusedBytes at l i m
+    → Put (spell (a .number) ++ (32 ∷ [])) i m j n → Put lineBytes j n k o
+    → Put (spell (a .line) ++ (10 ∷ [])) k o r new → Put (refusalText a) at l r new
 unfolding joined
-refusal-put l m n o new a i j k r b c d e =
+refusal-put l m n o new a at i j k r b c d e =
     simp append-assoc
     (simp append-assoc
-    at (four refusedBytes (spell (a .number) ++ (32 ∷ [])) lineBytes (spell (a .line) ++ (10 ∷ [])) l m n o new i j k r b c d e))
+    at (four refusedBytes (spell (a .number) ++ (32 ∷ [])) lineBytes (spell (a .line) ++ (10 ∷ [])) l m n o new at i j k r b c d e))
 
-pub ruleset kit = (first-holds, none-holds, pivots-put, dash-put, pivots-next, row-put, refusal-put)
+-- Room for the number, for `line `, and for the line's number.
+module _ (l m : List ℕ) (at i : ℕ) (h : at + 25 < 2 ^ 64) (a : Put refusedBytes at l i m) where
+  pub refusal-number : i + 6 < 2 ^ 64
+  refusal-number = omega (arith, a .next)
+
+  pub refusal-line : (j : ℕ) → j ≤ i + 6 → j + 5 < 2 ^ 64
+  refusal-line j g = omega (arith, a .next)
+
+  pub refusal-end : (n o : List ℕ) (j k : ℕ) → j ≤ i + 6 → Put lineBytes j n k o → k + 6 < 2 ^ 64
+  refusal-end n o j k g b = omega (arith, a .next, b .next)
+
+pub ruleset kit = (
+  first-holds,
+  none-holds,
+  pivots-put,
+  dash-put,
+  dash-next,
+  pivots-room,
+  pivots-next,
+  row-put,
+  header-put,
+  row-next,
+  refusal-put,
+  refusal-number,
+  refusal-line,
+  refusal-end,
+)

@@ -1,12 +1,14 @@
 -- What the program `judge` prints (document 01, "One listing whole" and the end of "Who is at fault"), as lists of bytes.
-use Prim.Native.Nat.{ℕ, suc, _-_}
+use Prim.Native.Nat.{ℕ, zero, suc, _-_}
 use mathlib.Core.Bool.{cond}
 use mathlib.Core.List.{List, [], _∷_, _++_, map}
+use lib.Dec.{eqb}
 use lib.ListN.{getD, take, drop}
 use Rattle.answer.specs.declared.Answer.{Answer}
 use Rattle.sets.specs.Sets.{member}
 use Rattle.text.specs.Split.{joined, lineFrom}
 use Rattle.text.specs.Numbers.{spell}
+use Rattle.judging.specs.Demands.{rowIn}
 
 -- `vertex`, `prefixes`, `pivots`
 abbrev pub headerFields : List (List ℕ)
@@ -28,8 +30,19 @@ abbrev pub rowText : ℕ → ℕ → List ℕ → List ℕ
 rowText beads step row = lineFrom (spell step ∷ (spell (getD row 0 0) ∷ (pivotsWord beads row ∷ [])))
 
 -- `refused N line L`
+abbrev pub refusalFields : Answer → List (List ℕ)
+refusalFields a =
+    (114 ∷ 101 ∷ 102 ∷ 117 ∷ 115 ∷ 101 ∷ 100 ∷ [])
+    ∷ (spell (a .number) ∷ ((108 ∷ 105 ∷ 110 ∷ 101 ∷ []) ∷ (spell (a .line) ∷ [])))
+
 abbrev pub refusalText : Answer → List ℕ
-refusalText a =
-    lineFrom
-    ((114 ∷ 101 ∷ 102 ∷ 117 ∷ 115 ∷ 101 ∷ 100 ∷ [])
-    ∷ (spell (a .number) ∷ ((108 ∷ 105 ∷ 110 ∷ 101 ∷ []) ∷ (spell (a .line) ∷ []))))
+refusalText a = lineFrom (refusalFields a)
+
+-- The lines of the steps below n, from their rows in the result buffer.
+unfoldable pub rowLines : ℕ → ℕ → List ℕ → List ℕ
+rowLines beads zero result = []
+rowLines beads (suc v) result = rowLines beads v result ++ rowText beads v (rowIn result v)
+
+-- All that is printed: the header and a line a step, or only the line of a refusal.
+abbrev pub outputText : Answer → ℕ → ℕ → List ℕ → List ℕ
+outputText a beads steps result = cond (eqb (a .number) 0) (headerText ++ rowLines beads steps result) (refusalText a)

@@ -1,50 +1,53 @@
-// The report's lines, each written at the front of a buffer that holds any of them: at most
-// 5 + 1 + 5 + 1 + 9 * 6 + 1 bytes. Each function answers the index behind the line's newline.
-use crate::put::put_byte;
-use crate::put::put_bytes;
-use crate::put::put_ended;
-use crate::put::put_listed;
-use crate::put::put_number;
+// The report's lines, each written into a buffer from an index on. Each function answers the index
+// behind the line's newline.
 use answer::Answer;
-ghost use Prim.Native.Nat.{_+_, _-_, _≤_, min};
+use writing::put_byte;
+use writing::put_bytes;
+use writing::put_ended;
+use writing::put_listed;
+use writing::put_number;
+ghost use Prim.Native.Nat.{_+_, _-_, _^_, _≤_, _<_, min};
 ghost use mathlib.Core.Path.{_≡_};
-ghost use mathlib.Core.List.{_++_};
-ghost use lib.ListN.{length, take};
+ghost use lib.ListN.{length};
 ghost use Rattle.sets.specs.Sets.{member};
-ghost use Rattle.report.specs.Written.{Written};
+ghost use Rattle.writing.specs.Put.{Put};
 ghost use Rattle.report.specs.Report.{headerText, pivotsWord, rowText, refusalText};
 
-pub fn header_line(line: &mut [u8; 80]) -> usize
-    ensures { λ r. ⌜ Written headerText (now (line .entry)) r (now (line .exit)) ⌝ }
+pub fn put_header(out: &mut [u8], at: usize) -> usize
+    requires { ⌜ at + 23 < 2 ^ 64 ⌝ }
+    ensures { λ r. ⌜ Put headerText at (now (out .entry)) r (now (out .exit)) ⌝ }
 {
-    put_bytes(line, 0, b"vertex prefixes pivots\n")
+    put_bytes(out, at, b"vertex prefixes pivots\n")
 }
 
 // The line of a refusal.
-pub fn refusal_line(a: Answer, line: &mut [u8; 80]) -> usize
-    ensures { λ r. ⌜ Written (refusalText a) (now (line .entry)) r (now (line .exit)) ⌝ }
+pub fn put_refusal(out: &mut [u8], at: usize, a: Answer) -> usize
+    requires { ⌜ at + 25 < 2 ^ 64 ⌝ }
+    ensures { λ r. ⌜ Put (refusalText a) at (now (out .entry)) r (now (out .exit)) ⌝ }
 {
-    let next = put_bytes(line, 0, b"refused ");
-    let next = put_ended(line, next, a.number, b' ');
-    let next = put_bytes(line, next, b"line ");
-    put_ended(line, next, a.line, b'\n')
+    let next = put_bytes(out, at, b"refused ");
+    let next = put_ended(out, next, a.number, b' ');
+    let next = put_bytes(out, next, b"line ");
+    put_ended(out, next, a.line, b'\n')
 }
 
 // The line of a step under a pattern of this many beads, from the step's row in the result buffer.
-pub fn row_line(beads: u16, step: u16, row: &[u16], line: &mut [u8; 80]) -> usize
+pub fn put_row(out: &mut [u8], at: usize, beads: u16, step: u16, row: &[u16]) -> usize
     requires { ⌜ length (now row) ≡ 10 ⌝ }
-    ensures { λ r. ⌜ Written (rowText beads step (now (row .entry))) (now (line .entry)) r (now (line .exit)) ⌝ }
+    requires { ⌜ at + 67 < 2 ^ 64 ⌝ }
+    ensures { λ r. ⌜ Put (rowText beads step (now (row .entry))) at (now (out .entry)) r (now (out .exit)) ⌝ }
+    ensures { λ r. ⌜ r ≤ at + 67 ⌝ }
 {
-    let next = put_ended(line, 0, step, b' ');
-    let next = put_ended(line, next, row[0], b' ');
-    let next = put_pivots(line, next, beads, row);
-    put_byte(line, next, b'\n')
+    let next = put_ended(out, at, step, b' ');
+    let next = put_ended(out, next, row[0], b' ');
+    let next = put_pivots(out, next, beads, row);
+    put_byte(out, next, b'\n')
 }
 
 fn put_pivots(out: &mut [u8], at: usize, beads: u16, row: &[u16]) -> usize
     requires { ⌜ length (now row) ≡ 10 ⌝ }
-    requires { ⌜ at + 54 ≤ length (now out) ⌝ }
-    ensures { λ r. ⌜ Written (take at (now (out .entry)) ++ pivotsWord beads (now (row .entry))) (now (out .entry)) r (now (out .exit)) ⌝ }
+    requires { ⌜ at + 54 < 2 ^ 64 ⌝ }
+    ensures { λ r. ⌜ Put (pivotsWord beads (now (row .entry))) at (now (out .entry)) r (now (out .exit)) ⌝ }
     ensures { λ r. ⌜ r ≤ at + 54 ⌝ }
 {
     if whole_holds(beads, row[0]) {

@@ -1,62 +1,45 @@
--- `run`: the pattern, then the log.
-use Rattle.judge_files.proofs.FileLaws.{kit}
+-- `run`: both files read and judged, then what is printed.
+use Rattle.judge_files.proofs.OutputLaws.{kit}
 use borrow.Author.Needs.{needs}
 use Rattle.judge_files.proofs.run.Statement.{statement}
 use Rattle.judge_files.proofs.run.Tie as tie
 
-read-pattern-file-requires : tie.Need-read-pattern-file-requires
-read-pattern-file-requires c κs = search (needs, kit)
+-- src/lib.rt:37:9
+judge-texts-requires : tie.Need-judge-texts-requires
+judge-texts-requires c κs = search (needs, kit)
 
-judge-log-file-requires : tie.Need-judge-log-file-requires
-judge-log-file-requires c κs = search (needs, kit)
+-- src/lib.rt:39:21
+element-copy-out-beads : tie.Need-element-copy-out-beads
+element-copy-out-beads c = search (needs, kit)
 
-same-length : tie.Need-same-length
-same-length c = search (needs, kit)
+-- src/lib.rt:40:21
+element-copy-out-steps : tie.Need-element-copy-out-steps
+element-copy-out-steps c = search (needs, kit)
 
-same-length-2 : tie.Need-same-length-2
-same-length-2 c = search (needs, kit)
+-- src/lib.rt:41:13
+put-rows-requires : tie.Need-put-rows-requires
+put-rows-requires c κs = search (needs, kit)
 
-same-length-3 : tie.Need-same-length-3
-same-length-3 c = search (needs, kit)
-
-same-length-4 : tie.Need-same-length-4
-same-length-4 c = search (needs, kit)
-
-same-length-5 : tie.Need-same-length-5
-same-length-5 c = search (needs, kit)
-
-same-length-6 : tie.Need-same-length-6
-same-length-6 c = search (needs, kit)
-
+-- src/lib.rt:42:9
 returns : tie.Need-returns
-returns c = search (needs, kit)
+returns c = (record { pattern-room = search needs; log-room = search needs }, (search (needs, kit), search (needs, kit)))
 
-print-refusal-requires : tie.Need-print-refusal-requires
-print-refusal-requires c κs = search (needs, kit)
+-- src/lib.rt:47:9
+put-refusal-requires : tie.Need-put-refusal-requires
+put-refusal-requires c κs = search (needs, kit)
 
-same-length-7 : tie.Need-same-length-7
-same-length-7 c = search (needs, kit)
-
-same-length-8 : tie.Need-same-length-8
-same-length-8 c = search (needs, kit)
-
+-- src/lib.rt:25:1
 returns-2 : tie.Need-returns-2
-returns-2 c = search (needs, kit)
+returns-2 c = (record { pattern-room = search needs; log-room = search needs }, (search (needs, kit), search (needs, kit)))
 
 pub run-spec : {M : Type 1} → statement M
 run-spec =
     tie.close
     (tie.spec
-    read-pattern-file-requires
-    judge-log-file-requires
-    same-length
-    same-length-2
-    same-length-3
-    same-length-4
-    same-length-5
-    same-length-6
+    judge-texts-requires
+    element-copy-out-beads
+    element-copy-out-steps
+    put-rows-requires
     returns
-    print-refusal-requires
-    same-length-7
-    same-length-8
+    put-refusal-requires
     returns-2)
