@@ -12,7 +12,7 @@ use Rattle.lists.proofs.Tables.{table-is}
 use Rattle.text.specs.Split.{split}
 use Rattle.text.specs.Lines.{asLines, printable}
 use Rattle.text.specs.Fields.{sameBytes}
-use Rattle.text.specs.Numbers.{digits, valueFrom, decimal}
+use Rattle.numbers.specs.Numbers.{digits, valueFrom, decimal}
 use Rattle.text.specs.Walk.{Outcome, accepted, faulty, walk}
 use Rattle.pattern_line.specs.Header.{sameFields, nameBytes, areNames, among, distinct}
 use Rattle.pattern_line.specs.Row.{areNumbers as areNumbersIn, followsLast, breaksTurns, statesOf, allWithin, allSingle}

@@ -15,7 +15,7 @@ use Rattle.lists.specs.Tables.{table}
 use Rattle.text.specs.Split.{split}
 use Rattle.text.specs.Lines.{asLines, printable}
 use Rattle.text.specs.Fields.{sameBytes}
-use Rattle.text.specs.Numbers.{digits, valueFrom, decimal}
+use Rattle.numbers.specs.Numbers.{digits, valueFrom, decimal}
 use Rattle.text.specs.Walk.{Outcome, accepted, faulty, walk}
 use Rattle.pattern_line.specs.Limits.{ruleAt, bufferLength as patternLength}
 use Rattle.pattern_line.specs.Header.{sameFields, nameBytes, areNames, among, distinct}

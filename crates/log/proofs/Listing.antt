@@ -7,7 +7,7 @@ use lib.ListN.{getD}
 use Rattle.text.specs.Split.{split}
 use Rattle.text.specs.Fields.{sameBytes}
 use Rattle.text.specs.Lines.{asLines, printable}
-use Rattle.text.specs.Numbers.{digits, valueFrom, decimal}
+use Rattle.numbers.specs.Numbers.{digits, valueFrom, decimal}
 use Rattle.text.specs.Walk.{accepted, faulty, walk}
 use Rattle.log_line.specs.Limits.{labelsAt, boardAt, beginAt, linkAt}
 use Rattle.log_line.specs.Header.{placeOf}

@@ -16,7 +16,7 @@ use Rattle.text.specs.Walk.{Outcome, faulty, walk, readText}
 use Rattle.text.specs.declared.lines.LineFault.{LineFault}
 use Rattle.text.specs.declared.lines.Line.{Line}
 use Rattle.text.specs.declared.lines.Line.the-variants.{Whole, Broken}
-use Rattle.text.proofs.Lists.{rest-part}
+use Rattle.lists.proofs.Parts.{rest-part}
 use Rattle.text.proofs.WalkLaws.{size-empty, size-over, size-right, text-broken, text-refused, text-passed, lent-whole, after-in}
 use Rattle.log_line.specs.Header.{columnsOf}
 use Rattle.log_line.specs.Format.{Known, judgeHeader, judgeLine, logFormat, conclude, logText}

@@ -12,7 +12,7 @@ use lib.ListN.{length, getD, length-append}
 use Rattle.text.specs.Split.{split, joined, lineFrom}
 use Rattle.text.specs.Lines.{TextLine, linesOf, printable, whole}
 use Rattle.text.specs.Fields.{sameBytes}
-use Rattle.text.specs.Numbers.{isNumber, valueOf, isValue, valueIs, largest, spell}
+use Rattle.numbers.specs.Numbers.{isNumber, valueOf, isValue, valueIs, largest, spell}
 use Rattle.text.specs.Walk.{Judged, passed, accepted, proceed, walk, readText}
 use Rattle.text.proofs.WalkLaws.{size-right}
 use Rattle.log_line.specs.Limits.{mostLine, mostBoard, mostSteps, mostLinks, mostPreds, mostLabels}

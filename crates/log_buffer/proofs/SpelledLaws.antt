@@ -12,10 +12,10 @@ use Rattle.sets.proofs.Truth.{and-l, and-r}
 use Rattle.text.specs.Split.{prepend, split, joined, lineFrom}
 use Rattle.text.specs.Lines.{TextLine, asLines, linesOf, printableByte, printable}
 use Rattle.text.specs.Fields.{sameBytes}
-use Rattle.text.specs.Numbers.{digit, digits, largest, answer, numberOf, spellIn, spell}
-use Rattle.text.specs.declared.numbers.Number.the-variants.{Value}
+use Rattle.numbers.specs.Numbers.{digit, digits, largest, answer, numberOf, spellIn, spell}
+use Rattle.numbers.specs.declared.Number.the-variants.{Value}
 use Rattle.text.proofs.SplitLaws.{split-at, split-on, split-empty, split-some}
-use Rattle.text.proofs.Spelling.{decimal-out, spelling-reads}
+use Rattle.numbers.proofs.Spelling.{decimal-out, spelling-reads}
 
 -- ---- no byte of a list is b
 

@@ -2,7 +2,7 @@
 use Prim.Native.Nat.{ℕ, zero, suc}
 use mathlib.Core.List.{List, [], _∷_, _++_, map}
 use Rattle.text.specs.Split.{joined, lineFrom}
-use Rattle.text.specs.Numbers.{spell}
+use Rattle.numbers.specs.Numbers.{spell}
 use Rattle.log_line.specs.Limits.{labelsAt, boardAt}
 use Rattle.log_line.specs.Header.{vertexName, boardName, labelsName, predsName}
 use Rattle.log_line.specs.Step.{Step}

@@ -4,9 +4,9 @@ use mathlib.Core.Path.{_≡_, sym, ap, _∙_}
 use mathlib.Core.Bool.{true, false}
 use mathlib.Core.List.{List}
 use Prim.Native.Nat.{ℕ}
-use Rattle.text.specs.Numbers.{numberOf, isValue, valueIs, isNumber, valueOf}
-use Rattle.text.specs.declared.numbers.Number.{Number}
-use Rattle.text.specs.declared.numbers.Number.the-variants.{Value, Malformed}
+use Rattle.numbers.specs.Numbers.{numberOf, isValue, valueIs, isNumber, valueOf}
+use Rattle.numbers.specs.declared.Number.{Number}
+use Rattle.numbers.specs.declared.Number.the-variants.{Value, Malformed}
 
 module _ (bs : List ℕ) (r : Number) (given : r ≡ numberOf bs) where
   pub not-number : r ≡ Malformed → false ≡ isNumber bs

@@ -12,9 +12,9 @@ use lib.ListN.{length, take, drop, set, length-map, length-append, length-set}
 use lib.Seq.{take-suc-set, length-take-le, set-out}
 use Rattle.text.specs.Split.{split}
 use Rattle.text.specs.Fields.{firstPart}
-use Rattle.text.specs.Numbers.{numberOf, isNumber, valueOf}
-use Rattle.text.specs.declared.numbers.Number.{Number}
-use Rattle.text.specs.declared.numbers.Number.the-variants.{Value, Malformed}
+use Rattle.numbers.specs.Numbers.{numberOf, isNumber, valueOf}
+use Rattle.numbers.specs.declared.Number.{Number}
+use Rattle.numbers.specs.declared.Number.the-variants.{Value, Malformed}
 use Rattle.text.proofs.FieldLaws.{count-some}
 use Rattle.log_line.specs.Step.{isNone, predsOf, areNumbers, risingBelow, mislinked}
 use Rattle.log_line.specs.Scan.{Scanned, scanEnd}

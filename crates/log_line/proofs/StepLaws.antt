@@ -11,7 +11,7 @@ use lib.ListN.{length, getD, take, drop}
 use Rattle.sets.specs.Sets.{within}
 use Rattle.text.specs.Split.{split}
 use Rattle.text.specs.Fields.{fieldOf, sameBytes}
-use Rattle.text.specs.Numbers.{decimal, numberOf, isNumber, valueOf}
+use Rattle.numbers.specs.Numbers.{decimal, numberOf, isNumber, valueOf}
 use Rattle.text.specs.declared.fields.Field.{Field}
 use Rattle.text.specs.declared.fields.Field.the-variants.{At, Missing}
 use Rattle.log_line.specs.Step.{Step, predsOf, areNumbers, areNumbersAt, arePreds, malformed, mislinked, mislabelled, linkCount, overLimit}
@@ -23,8 +23,8 @@ use Rattle.log_line.specs.declared.step.LineAnswer.{LineAnswer}
 use Rattle.log_line.specs.declared.step.LineAnswer.the-variants.{Values, Refused}
 use Rattle.log_line.specs.Header.{Columns}
 use Rattle.log_line.specs.Scan.{Scanned, JudgedBy, NumbersBy, LineBy}
-use Rattle.text.specs.declared.numbers.Number.{Number as ReadNumber}
-use Rattle.text.specs.declared.numbers.Number.the-variants.{Value, Malformed as Malformed-number}
+use Rattle.numbers.specs.declared.Number.{Number as ReadNumber}
+use Rattle.numbers.specs.declared.Number.the-variants.{Value, Malformed as Malformed-number}
 use Rattle.log_line.proofs.NumberLaws.{not-number, is-number, value-some}
 use Rattle.log_line.specs.declared.preds.PredScan.{PredScan}
 use Rattle.log_line.proofs.ColumnLaws.{field-none, field-ordered, field-inside, field-bytes}

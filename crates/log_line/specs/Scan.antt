@@ -5,8 +5,8 @@ use mathlib.Core.Bool.{Bool, true, not, cond}
 use mathlib.Core.List.{List, []}
 use lib.Dec.{eqb}
 use lib.ListN.{length, take, getD}
-use Rattle.text.specs.Numbers.{numberOf}
-use Rattle.text.specs.declared.numbers.Number.the-variants.{Value}
+use Rattle.numbers.specs.Numbers.{numberOf}
+use Rattle.numbers.specs.declared.Number.the-variants.{Value}
 use Rattle.log_line.specs.Limits.{mostPreds}
 use Rattle.log_line.specs.Header.{Columns}
 use Rattle.log_line.specs.Step.{predsOf, arePreds, mislinked}

@@ -7,7 +7,7 @@ use lib.ListN.{length, getD}
 use Rattle.sets.specs.Sets.{within}
 use Rattle.text.specs.Split.{split}
 use Rattle.text.specs.Fields.{sameBytes}
-use Rattle.text.specs.Numbers.{isNumber, valueOf}
+use Rattle.numbers.specs.Numbers.{isNumber, valueOf}
 use Rattle.log_line.specs.Limits.{mostBoard, mostSteps, mostLinks, mostPreds}
 use Rattle.log_line.specs.Header.{Columns}
 

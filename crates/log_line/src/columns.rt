@@ -4,11 +4,11 @@ ghost use mathlib.Core.List.{[]};
 ghost use lib.ListN.{getD};
 ghost use Rattle.text.specs.Split.{split};
 ghost use Rattle.text.specs.Fields.{Marked};
-ghost use Rattle.text.specs.Numbers.{numberOf};
+ghost use Rattle.numbers.specs.Numbers.{numberOf};
 use text::fields::Field;
 use text::fields::marked_field;
-use text::numbers::Number;
-use text::numbers::read_number;
+use numbers::Number;
+use numbers::read_number;
 
 // The number in the field with this index; a field that is not there is none.
 pub fn number_at(line: &[u8], marks: &[usize], index: usize) -> Number

@@ -19,7 +19,7 @@ use text::fields::Field;
 use text::fields::mark_fields;
 use text::fields::marked_count;
 use text::fields::marked_field;
-use text::numbers::Number;
+use numbers::Number;
 
 // What a line says of its step: board, label set, and how many links. The links stand beside it.
 pub struct StepValues {

@@ -11,7 +11,7 @@ use lib.ListN.{length, getD, take, drop, length-drop, length-map, List·getD-map
 use lib.Seq.{getD-drop}
 use Rattle.text.specs.Split.{split}
 use Rattle.text.specs.Lines.{TextLine, linesOf, whole}
-use Rattle.text.specs.Numbers.{valueOf, decimal}
+use Rattle.numbers.specs.Numbers.{valueOf, decimal}
 use Rattle.text.specs.Walk.{Judged, refused, passed, Outcome, accepted, faulty, proceed, walk, badSize, readText}
 use Rattle.sets.proofs.Truth.{true-yes, yes-true, and-l, and-r}
 use Rattle.pattern_line.specs.Limits.{mostLine, mostText}

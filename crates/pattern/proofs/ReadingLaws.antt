@@ -17,7 +17,7 @@ use Rattle.text.specs.Walk.{Judged, refused, passed, Outcome, accepted, faulty,
 use Rattle.text.specs.declared.lines.LineFault.{LineFault}
 use Rattle.text.specs.declared.lines.Line.{Line}
 use Rattle.text.specs.declared.lines.Line.the-variants.{Whole, Broken}
-use Rattle.text.proofs.Lists.{rest-part}
+use Rattle.lists.proofs.Parts.{rest-part}
 use Rattle.text.proofs.WalkLaws.{text-end, text-broken, text-refused, text-passed, lent-whole, line-in, after-in, left-falls, size-empty, size-over, size-right}
 use Rattle.sets.specs.Sets.{setOf}
 use Rattle.sets.proofs.Laws.{ext, setOf-below, member-setOf}

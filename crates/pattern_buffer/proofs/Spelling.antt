@@ -13,10 +13,10 @@ use Rattle.sets.proofs.Truth.{yes-true}
 use Rattle.text.specs.Split.{prepend, split, joined}
 use Rattle.text.specs.Fields.{sameBytes}
 use Rattle.text.specs.Lines.{asLines, linesOf, printableByte, printable}
-use Rattle.text.specs.Numbers.{digit, digits, largest, answer, numberOf, valueIs, valueOf, spellIn, spell}
-use Rattle.text.specs.declared.numbers.Number.the-variants.{Value}
+use Rattle.numbers.specs.Numbers.{digit, digits, largest, answer, numberOf, valueIs, valueOf, spellIn, spell}
+use Rattle.numbers.specs.declared.Number.the-variants.{Value}
 use Rattle.text.proofs.SplitLaws.{split-at, split-on, split-empty, split-some}
-use Rattle.text.proofs.Spelling.{decimal-out, spelling-reads}
+use Rattle.numbers.proofs.Spelling.{decimal-out, spelling-reads}
 use Rattle.pattern_line.specs.Row.{Row, ruleOf, rowOf, areNumbers, malformed}
 use Rattle.pattern_buffer.proofs.RowTests.{and-true}
 use Rattle.pattern_buffer.specs.Spelled.{ruleWord, fieldsOf}

@@ -15,7 +15,7 @@ use Rattle.sets.proofs.Truth.{yes-true, true-yes}
 use Rattle.text.specs.Split.{split, joined}
 use Rattle.text.specs.Fields.{sameBytes}
 use Rattle.text.specs.Lines.{TextLine, linesOf, printable, whole}
-use Rattle.text.specs.Numbers.{largest, spellIn}
+use Rattle.numbers.specs.Numbers.{largest, spellIn}
 use Rattle.text.specs.Walk.{Judged, refused, passed, accepted, walk, readText}
 use Rattle.pattern_line.specs.Limits.{mostText, mostLine, mostStates, mostLabels, ruleAt, statesAt, nextAt}
 use Rattle.pattern_line.specs.Header.{columns, sameFields, nameBytes, areNames, among, distinct, isHeader, labelCount}

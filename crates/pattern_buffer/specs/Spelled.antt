@@ -5,7 +5,7 @@ use mathlib.Core.List.{List, [], _∷_, _++_, map}
 use lib.Dec.{eqb}
 use Rattle.sets.specs.Sets.{member}
 use Rattle.text.specs.Split.{joined}
-use Rattle.text.specs.Numbers.{spell}
+use Rattle.numbers.specs.Numbers.{spell}
 use Rattle.pattern_line.specs.Limits.{ruleAt, statesAt, acceptingAt, nextAt}
 use Rattle.pattern_line.specs.Header.{columns}
 use Rattle.pattern_line.specs.Row.{Row}

@@ -9,9 +9,9 @@ use borrow.Author.Tests.{eq-eqb, ne-eqb, lt-ltb, le-ltb}
 use lib.Dec.{eqb, ltb}
 use lib.ListN.{length, getD, drop, set}
 use Rattle.text.specs.Fields.{sameBytes}
-use Rattle.text.specs.Numbers.{numberOf, isValue, valueIs, isNumber, valueOf}
-use Rattle.text.specs.declared.numbers.Number.{Number}
-use Rattle.text.specs.declared.numbers.Number.the-variants.{Value, Malformed}
+use Rattle.numbers.specs.Numbers.{numberOf, isValue, valueIs, isNumber, valueOf}
+use Rattle.numbers.specs.declared.Number.{Number}
+use Rattle.numbers.specs.declared.Number.the-variants.{Value, Malformed}
 use Rattle.pattern_line.specs.Line.{fieldsOf, fieldAt}
 use Rattle.pattern_line.specs.Row.{Row, ruleOf, rowOf, areNumbers, malformed, followsLast, disordered, breaksTurns, misruled}
 use Rattle.pattern_line.specs.Answers.{Said, refusal, lineSaid, orderJudged, rowJudged, nextSets, rowFor, rowsAt}

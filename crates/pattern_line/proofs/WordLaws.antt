@@ -6,11 +6,11 @@ use mathlib.Core.List.{List, []}
 use Prim.Native.Nat.{ℕ, _-_, _≤_}
 use lib.ListN.{length, getD, take, drop, List·getD-eq-default}
 use Rattle.text.specs.Fields.{fieldOf, sameBytes}
-use Rattle.text.specs.Numbers.{decimal, numberOf}
+use Rattle.numbers.specs.Numbers.{decimal, numberOf}
 use Rattle.text.specs.declared.fields.Field.{Field}
 use Rattle.text.specs.declared.fields.Field.the-variants.{At, Missing}
-use Rattle.text.specs.declared.numbers.Number.{Number}
-use Rattle.text.specs.declared.numbers.Number.the-variants.{Malformed}
+use Rattle.numbers.specs.declared.Number.{Number}
+use Rattle.numbers.specs.declared.Number.the-variants.{Malformed}
 use Rattle.text.proofs.FieldLaws.{Selects, field-selects, field-missing}
 use Rattle.pattern_line.specs.Line.{fieldsOf, fieldAt}
 use Rattle.pattern_line.specs.Header.{nameBytes, isName}

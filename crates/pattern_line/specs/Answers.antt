@@ -4,7 +4,7 @@ use mathlib.Core.Bool.{cond}
 use mathlib.Core.List.{List, [], _∷_}
 use lib.Dec.{eqb}
 use lib.ListN.{getD}
-use Rattle.text.specs.Numbers.{valueOf}
+use Rattle.numbers.specs.Numbers.{valueOf}
 use Rattle.pattern_line.specs.Header.{isHeader, labelCount}
 use Rattle.pattern_line.specs.Row.{Row, rowOf, malformed, disordered, misruled}
 use Rattle.lists.specs.Tables.{table}

@@ -6,7 +6,7 @@ use lib.Dec.{eqb, ltb}
 use lib.ListN.{length, getD, drop}
 use Rattle.sets.specs.Sets.{within, single}
 use Rattle.text.specs.Fields.{sameBytes}
-use Rattle.text.specs.Numbers.{isNumber, valueOf}
+use Rattle.numbers.specs.Numbers.{isNumber, valueOf}
 use Rattle.pattern_line.specs.Limits.{mostBeads, mostStates}
 
 -- What a line says of a state of a bead: bead, rule (1 SOME, 2 ALL), state, final, and the next set of each label.

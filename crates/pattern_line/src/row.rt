@@ -2,14 +2,14 @@
 ghost use mathlib.Core.Path.{_≡_};
 ghost use lib.ListN.{length, drop};
 ghost use Rattle.text.specs.Fields.{Marked};
-ghost use Rattle.text.specs.Numbers.{isNumber, valueOf};
+ghost use Rattle.numbers.specs.Numbers.{isNumber, valueOf};
 ghost use Rattle.pattern_line.specs.Line.{fieldsOf, fieldAt};
 ghost use Rattle.pattern_line.specs.Row.{ruleOf, areNumbers, followsLast, breaksTurns};
 ghost use Rattle.pattern_line.specs.Answers.{lineSaid, orderJudged, rowJudged, nextSets, rowFor, rowsAt};
 use crate::refusals::Refusal;
 use crate::words::number_at;
 use crate::words::word_at;
-use text::numbers::Number;
+use numbers::Number;
 
 // A line's values but for its next sets: bead, rule (1 SOME, 2 ALL, 0 neither), state, final.
 pub struct LineValues {

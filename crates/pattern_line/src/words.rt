@@ -1,10 +1,10 @@
 // The fields of a line, which are marked, by their index: as a number, or compared with bytes. A field that the line lacks counts as empty.
 ghost use mathlib.Core.Path.{_≡_};
 ghost use Rattle.text.specs.Fields.{sameBytes, Marked};
-ghost use Rattle.text.specs.Numbers.{numberOf};
+ghost use Rattle.numbers.specs.Numbers.{numberOf};
 ghost use Rattle.pattern_line.specs.Line.{fieldAt};
 use text::fields::Field;
-use text::numbers::Number;
+use numbers::Number;
 
 pub fn number_at(line: &[u8], marks: &[usize], index: usize) -> Number
     requires { ⌜ Marked 32 (now line) (now marks) ⌝ }
@@ -12,7 +12,7 @@ pub fn number_at(line: &[u8], marks: &[usize], index: usize) -> Number
 {
     match text::fields::marked_field(line, 32, marks, index) {
         Field::Missing => Number::Malformed,
-        Field::At(from, to) => text::numbers::read_number(&line[from..to]),
+        Field::At(from, to) => numbers::read_number(&line[from..to]),
     }
 }
 

@@ -12,7 +12,7 @@ use lib.Seq.{getD-take}
 use Rattle.answer.specs.declared.Answer.{Answer}
 use Rattle.sets.specs.Sets.{member}
 use Rattle.text.specs.Split.{joined}
-use Rattle.text.specs.Numbers.{spell}
+use Rattle.numbers.specs.Numbers.{spell}
 use Rattle.writing.proofs.PutLaws.{length-spell}
 use Rattle.necklace.specs.Dag.{Dag}
 use Rattle.necklace.specs.Necklace.{Pattern}

@@ -13,7 +13,7 @@ use Rattle.answer.specs.declared.Answer.{Answer}
 use Rattle.sets.specs.Sets.{member}
 use Rattle.sets.proofs.Bits.{member-add, member-empty}
 use Rattle.text.specs.Split.{joined}
-use Rattle.text.specs.Numbers.{spell}
+use Rattle.numbers.specs.Numbers.{spell}
 use Rattle.report.specs.Report.{headerText, pivotsWord, rowText, refusalText}
 use Rattle.writing.specs.Put.{Put, listed}
 use Rattle.writing.proofs.PutLaws.{then}

@@ -5,7 +5,7 @@ use mathlib.Core.List.{List, [], _∷_, _++_, map}
 use lib.ListN.{take, replicate}
 use Rattle.answer.specs.Answers.{refusedAt}
 use Rattle.text.specs.Split.{joined}
-use Rattle.text.specs.Numbers.{spellIn}
+use Rattle.numbers.specs.Numbers.{spellIn}
 use Rattle.report.specs.Report.{headerText, rowText, refusalText}
 
 -- A line that the definitions give, and the bytes that document 01 shows.

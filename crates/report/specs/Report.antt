@@ -7,7 +7,7 @@ use lib.ListN.{getD, take, drop}
 use Rattle.answer.specs.declared.Answer.{Answer}
 use Rattle.sets.specs.Sets.{member}
 use Rattle.text.specs.Split.{joined, lineFrom}
-use Rattle.text.specs.Numbers.{spell}
+use Rattle.numbers.specs.Numbers.{spell}
 use Rattle.judging.specs.Demands.{rowIn}
 
 -- `vertex`, `prefixes`, `pivots`

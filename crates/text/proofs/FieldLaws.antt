@@ -16,7 +16,7 @@ use Rattle.text.specs.Split.{prepend, split, joined}
 use Rattle.text.specs.Fields.{firstPart, partStart, partAt, fieldOf, sameBytes}
 use Rattle.text.specs.declared.fields.Field.{Field}
 use Rattle.text.specs.declared.fields.Field.the-variants.{At, Missing}
-use Rattle.text.proofs.Lists.{drop-step, rest-part}
+use Rattle.lists.proofs.Parts.{drop-step, rest-part}
 use Rattle.text.proofs.SplitLaws.{split-at, split-on, split-empty, split-some, split-last, split-next, first-short, start-next, joined-split, part-there, part-inside}
 
 -- ---- how long the first field is

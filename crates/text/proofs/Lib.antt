@@ -1,10 +1,6 @@
-pub mod Lists
-pub mod NumberLaws
-pub mod Spelling
 pub mod SplitLaws
 pub mod FieldLaws
 pub mod PartLaws
 pub mod MarkLaws
 pub mod LineLaws
 pub mod WalkLaws
-pub mod ScanLaws

@@ -19,7 +19,7 @@ use Rattle.text.specs.declared.lines.LineFault.{LineFault}
 use Rattle.text.specs.declared.lines.LineFault.the-variants.{Long, Unended, Unprintable}
 use Rattle.text.specs.declared.lines.Line.{Line}
 use Rattle.text.specs.declared.lines.Line.the-variants.{Whole, Broken}
-use Rattle.text.proofs.Lists.{drop-step}
+use Rattle.lists.proofs.Parts.{drop-step}
 use Rattle.text.proofs.SplitLaws.{split-at, split-on, split-empty, split-some, Cut, uncut, cut, cut-of}
 
 -- ---- the first line, byte by byte

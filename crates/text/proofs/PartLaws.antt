@@ -12,7 +12,7 @@ use lib.ListN.{length, take, drop, length-drop}
 use lib.Seq.{drop-drop, take-all}
 use Rattle.text.specs.Split.{split}
 use Rattle.text.specs.Fields.{firstPart}
-use Rattle.text.proofs.Lists.{rest-part}
+use Rattle.lists.proofs.Parts.{rest-part}
 use Rattle.text.proofs.SplitLaws.{split-last, split-next, first-short}
 
 -- The parts from the place `at` on, at which one begins; past the end there is none.

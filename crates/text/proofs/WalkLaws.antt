@@ -16,7 +16,7 @@ use Rattle.text.specs.declared.lines.LineFault.{LineFault}
 use Rattle.text.specs.declared.lines.LineFault.the-variants.{Long, Unended, Unprintable}
 use Rattle.text.specs.declared.lines.Line.{Line}
 use Rattle.text.specs.declared.lines.Line.the-variants.{Whole, Broken}
-use Rattle.text.proofs.Lists.{rest-part}
+use Rattle.lists.proofs.Parts.{rest-part}
 use Rattle.text.proofs.SplitLaws.{split-empty}
 use Rattle.text.proofs.LineLaws.{Lead, unended, ends, lead-of}
 

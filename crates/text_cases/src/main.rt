@@ -1,7 +1,7 @@
-// Each function of `text` at its edges, on the cases of `cases.txt`, a line a case; at the end, how many cases of each kind were tried.
+// Each function of `text` and `numbers` at its edges, on the cases of `cases.txt`, a line a case; at the end, how many cases of each kind were tried.
 //
 // A line of the file has its columns parted by tabs: what is tried, the kind, the bytes as a script (`trial::expand`), and what the
-// kind takes besides them: the other bytes of a comparison, the allowed size of a scan.
+// kind takes besides them: the other bytes of a comparison.
 mod show;
 
 fn main() {
@@ -35,7 +35,7 @@ fn try_case(line: &[u8]) -> u16 {
     kind
 }
 
-// The first letter of `number`, `line`, `spaces`, `commas`, `missing`, `equal`, `walk`.
+// The first letter of `number`, `line`, `spaces`, `commas`, `missing`, `equal`.
 fn kind_of(letter: u8) -> u16 {
     match letter {
         b'n' => 0,
@@ -44,8 +44,7 @@ fn kind_of(letter: u8) -> u16 {
         b'c' => 3,
         b'm' => 4,
         b'e' => 5,
-        b'w' => 6,
-        _ => 7,
+        _ => 6,
     }
 }
 
@@ -57,7 +56,6 @@ fn show_answer(kind: u16, bytes: &[u8], other: &[u8]) {
         3 => show::fields(bytes, b','),
         4 => show::place(bytes, b' ', 18446744073709551615),
         5 => show::equal(bytes, other),
-        6 => show::walk(bytes, trial::number(other) as usize),
         _ => trial::print_bytes(b"NO SUCH KIND"),
     }
 }
@@ -69,5 +67,4 @@ fn print_counts(counts: &[u16]) {
     trial::print_count(b"lines split at commas", trial::get(counts, 3) as u64);
     trial::print_count(b"single places tried", trial::get(counts, 4) as u64);
     trial::print_count(b"comparisons tried", trial::get(counts, 5) as u64);
-    trial::print_count(b"texts scanned", trial::get(counts, 6) as u64);
 }

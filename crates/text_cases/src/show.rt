@@ -1,12 +1,11 @@
-// What each function of `text` answers, in words.
+// What each function of `text` and `numbers` answers, in words.
+use numbers::Number;
 use text::fields::Field;
 use text::lines::Line;
 use text::lines::LineFault;
-use text::numbers::Number;
-use text::walk::Scan;
 
 pub fn number(field: &[u8]) {
-    match text::numbers::read_number(field) {
+    match numbers::read_number(field) {
         Number::Value(value) => trial::print_number(value as u64),
         Number::Malformed => trial::print_bytes(b"malformed"),
     }
@@ -65,15 +64,6 @@ pub fn equal(a: &[u8], b: &[u8]) {
         trial::print_bytes(b"the same");
     } else {
         trial::print_bytes(b"not the same");
-    }
-}
-
-// A text walked line by line, with at most 240 bytes before a newline.
-pub fn walk(bytes: &[u8], size: usize) {
-    match text::walk::scan_lines(bytes, size, 240) {
-        Scan::Lines(count) => print_with(b"whole lines ", count as u64),
-        Scan::BadSize => trial::print_bytes(b"bad size"),
-        Scan::BadLine(line) => print_with(b"bad line ", line as u64),
     }
 }
 

@@ -9,8 +9,8 @@ use native.Mathlib.Decide.{decLe}
 use native.Mathlib.Omega.{arith}
 use lib.ListN.{length, getD, take, drop, set, length-append}
 use lib.Seq.{sets, set-out, take-suc, take-all, length-take-le}
-use Rattle.text.specs.Numbers.{spell}
-use Rattle.text.proofs.Spelling.{spell-digit, spell-step}
+use Rattle.numbers.specs.Numbers.{spell}
+use Rattle.numbers.proofs.Spelling.{spell-digit, spell-step}
 use Rattle.writing.specs.Put.{Put, listed}
 
 -- Two texts, one behind the other.

@@ -4,7 +4,7 @@ use mathlib.Core.Path.{_≡_}
 use mathlib.Core.List.{List, [], _∷_, _++_}
 use lib.ListN.{length}
 use lib.Seq.{sets}
-use Rattle.text.specs.Numbers.{spell}
+use Rattle.numbers.specs.Numbers.{spell}
 
 -- The text is written into the buffer old from the index `at` on, as far as there are places, and new is what that leaves. The index
 -- behind the text is r.

@@ -5,7 +5,7 @@ ghost use Prim.Native.Nat.{_+_, _*_, _^_, _≤_, _<_};
 ghost use mathlib.Core.Path.{_≡_};
 ghost use mathlib.Core.List.{_++_, _∷_, []};
 ghost use lib.ListN.{length};
-ghost use Rattle.text.specs.Numbers.{spell};
+ghost use Rattle.numbers.specs.Numbers.{spell};
 ghost use Rattle.writing.specs.Put.{Put, listed};
 
 pub fn put_byte(out: &mut [u8], at: usize, b: u8) -> usize

@@ -1,6 +1,6 @@
 // A field as a number.
 ghost use mathlib.Core.Path.{_≡_};
-ghost use Rattle.text.specs.Numbers.{numberOf};
+ghost use Rattle.numbers.specs.Numbers.{numberOf};
 
 // A number, or bytes that are none.
 pub enum Number {

@@ -8,7 +8,7 @@ use Prim.Native.Nat.{ℕ, zero, suc, _+_, _-_, _*_, _/_, _%_, _≤_, _<_}
 use native.Mathlib.Omega.{arith}
 use borrow.Author.Tests.{le-leb, lt-leb, ne-eqb, lt-ltb, le-ltb, ltb-true, ltb-false}
 use lib.Dec.{T, leb, ltb, eqb, leb→le, eqb→eq, not-T, T-not, eqb-refl}
-use Rattle.text.specs.Numbers.{digit, digits, valueFrom, plain, decimal, largest, numberOf, spellIn, spell}
+use Rattle.numbers.specs.Numbers.{digit, digits, valueFrom, plain, decimal, largest, numberOf, spellIn, spell}
 
 -- ---- the spelling's last digit
 

@@ -1,13 +1,13 @@
 -- The loop keeps: the number of the field is that of the bytes left, after digits of the value read so far.
 
-use Rattle.text.proofs.NumberLaws.{rest, kit}
-use Rattle.text.specs.Numbers.{largest, answer, numberOf}
+use Rattle.numbers.proofs.NumberLaws.{rest, kit}
+use Rattle.numbers.specs.Numbers.{largest, answer, numberOf}
 use lib.ListN.{length, drop}
 use mathlib.Core.Path.{_≡_}
 use Prim.Native.Nat.{_≤_, _-_}
 use borrow.Author.Needs.{needs}
-use Rattle.text.proofs.numbers.read_number.Statement.{statement}
-use Rattle.text.proofs.numbers.read_number.Tie as tie
+use Rattle.numbers.proofs.read_number.Statement.{statement}
+use Rattle.numbers.proofs.read_number.Tie as tie
 
 abbrev Inv-loop : tie.InvT-loop
 Inv-loop field i₀ value₀ i value = (i ≤ length field) × (value ≤ largest) × (numberOf field ≡ answer (rest largest value (drop i field)))

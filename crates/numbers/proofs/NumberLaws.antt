@@ -10,10 +10,10 @@ use native.Mathlib.Nat.{le-refl}
 use borrow.Author.Tests.{le-leb, lt-leb, ne-eqb}
 use lib.Dec.{leb, eqb}
 use lib.ListN.{length, getD, drop, drop-of-length-le}
-use Rattle.text.proofs.Lists.{drop-step}
-use Rattle.text.specs.Numbers.{digit, digits, valueFrom, plain, decimal, largest, answer, numberOf}
-use Rattle.text.specs.declared.numbers.Number.{Number}
-use Rattle.text.specs.declared.numbers.Number.the-variants.{Value, Malformed}
+use Rattle.lists.proofs.Parts.{drop-step}
+use Rattle.numbers.specs.Numbers.{digit, digits, valueFrom, plain, decimal, largest, answer, numberOf}
+use Rattle.numbers.specs.declared.Number.{Number}
+use Rattle.numbers.specs.declared.Number.the-variants.{Value, Malformed}
 
 -- ---- reading
 
