@@ -5,10 +5,10 @@ ghost use lib.ListN.{getD};
 ghost use Rattle.text.specs.Split.{split};
 ghost use Rattle.text.specs.Fields.{Marked};
 ghost use Rattle.numbers.specs.Numbers.{numberOf};
-use text::fields::Field;
-use text::fields::marked_field;
 use numbers::Number;
 use numbers::read_number;
+use text::fields::Field;
+use text::fields::marked_field;
 
 // The number in the field with this index; a field that is not there is none.
 pub fn number_at(line: &[u8], marks: &[usize], index: usize) -> Number

@@ -4,10 +4,10 @@ ghost use mathlib.Core.Bool.{false};
 ghost use lib.ListN.{length, set};
 ghost use Rattle.log_line.specs.Step.{isNone};
 ghost use Rattle.log_line.specs.Scan.{Scanned, scanEnd};
-use text::fields::first_length;
-use text::fields::same;
 use numbers::Number;
 use numbers::read_number;
+use text::fields::first_length;
+use text::fields::same;
 
 // What the field comes to for a step: is it `-` or numbers joined by commas? If so, are the links wrong (24), and how many are there?
 pub struct PredScan {

@@ -15,11 +15,11 @@ use crate::header::ColumnOrder;
 use crate::preds::PredScan;
 use crate::preds::scan_preds;
 use crate::refusals::Refusal;
+use numbers::Number;
 use text::fields::Field;
 use text::fields::mark_fields;
 use text::fields::marked_count;
 use text::fields::marked_field;
-use numbers::Number;
 
 // What a line says of its step: board, label set, and how many links. The links stand beside it.
 pub struct StepValues {

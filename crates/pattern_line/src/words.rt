@@ -3,8 +3,8 @@ ghost use mathlib.Core.Path.{_≡_};
 ghost use Rattle.text.specs.Fields.{sameBytes, Marked};
 ghost use Rattle.numbers.specs.Numbers.{numberOf};
 ghost use Rattle.pattern_line.specs.Line.{fieldAt};
-use text::fields::Field;
 use numbers::Number;
+use text::fields::Field;
 
 pub fn number_at(line: &[u8], marks: &[usize], index: usize) -> Number
     requires { ⌜ Marked 32 (now line) (now marks) ⌝ }
