@@ -12,7 +12,9 @@ use lib.Dec.{T, eqb, ltb}
 use lib.ListN.{length, getD, take, drop, replicate, length-append}
 use lib.Seq.{take-append-le, drop-append-le, drop-at, take-at}
 use Rattle.answer.specs.declared.Answer.{Answer}
-use Rattle.answer.specs.Answers.{acceptedWith, refusedAt}
+use Rattle.answer.specs.Answers.{acceptedWith}
+use Rattle.answer.specs.Faults.{Fault}
+use Rattle.answer.proofs.FaultLaws.{Passed, passed-later, passed-all as none-left, passed-first, passed-others, answer-accepted as accepted-answer, room-filled, numbered, accepted-passed}
 use Rattle.necklace.specs.Dag.{Dag}
 use Rattle.necklace.specs.Necklace.{Pattern}
 use Rattle.necklace.specs.Compute.{holds?, row}
@@ -24,8 +26,7 @@ use Rattle.pattern_buffer.specs.Valid.{isPattern}
 use Rattle.log_buffer.specs.Meaning.{logOf}
 use Rattle.log_buffer.specs.Valid.{isLog}
 use Rattle.judging.specs.Limits.{resultLength, workLength, rowLength}
-use Rattle.judging.specs.Judge.{patternIn, logIn, rowsUpTo, wholeUpTo, judgeAnswer, accepts, rowsOf, resultAfter, workAfter}
-use Rattle.judging.specs.Demands.{rowIn}
+use Rattle.judging.specs.Judge.{patternIn, logIn, rowsUpTo, wholeUpTo, judgeFaults, judgeAnswer, accepts, rowsOf, zeros, resultAfter, workAfter, rowIn}
 
 -- The tests that an accepted call passed.
 pub record Accepted (pattern log result work : List ℕ) : Type 0 where
@@ -37,68 +38,60 @@ pub record Accepted (pattern log result work : List ℕ) : Type 0 where
   pub is-log : T (isLog (labelsIn (take patternLength pattern)) (take logLength log))
 
 module _ (pattern log result work : List ℕ) where
-  answer-by : Bool → Bool → Bool → Bool → Bool → Bool → Answer
-  answer-by a b c d e f =
-      cond a (refusedAt 1 0)
-      (cond b (refusedAt 2 0)
-      (cond c (refusedAt 3 0)
-      (cond d (refusedAt 4 0)
-      (cond (not e) (refusedAt 6 0)
-      (cond (not f) (refusedAt 7 0) (acceptedWith (wholeUpTo (logIn log) (patternIn pattern) (logIn log .size))))))))
+  abbrev faults : List Fault
+  faults = judgeFaults pattern log result work
 
-  -- Which of the tests stopped a call, if one did.
+  no-fault : T (accepts pattern log result work) → Passed faults
+  unfolding numbered
+  no-fault t = accepted-passed faults (wholeUpTo (logIn log) (patternIn pattern) (logIn log .size)) refl t
+
+  granted : (b : Bool) → not b ≡ false → T b
+  granted true e = tt
+  granted false e = absurd (subst T e tt)
+
+  -- The tests that an accepted call passed,
   pub passed-all : T (accepts pattern log result work) → Accepted pattern log result work
-  unfolding answer-by
   passed-all t =
-      go (ltb (length log) logLength) refl (ltb (length pattern) patternLength) refl (ltb (length result) resultLength) refl (ltb (length work) workLength) refl
-      (isPattern (take patternLength pattern)) refl (isLog (labelsIn (take patternLength pattern)) (take logLength log)) refl t
-    where
-      go : (a : Bool) → ltb (length log) logLength ≡ a → (b : Bool) → ltb (length pattern) patternLength ≡ b → (c : Bool) → ltb (length result) resultLength ≡ c
-          → (d : Bool) → ltb (length work) workLength ≡ d → (e : Bool) → isPattern (take patternLength pattern) ≡ e
-          → (f : Bool) → isLog (labelsIn (take patternLength pattern)) (take logLength log) ≡ f
-          → T (eqb (answer-by a b c d e f .number) 0) → Accepted pattern log result work
-      go true ea b eb c ec d ed e ee f ef u = absurd u
-      go false ea true eb c ec d ed e ee f ef u = absurd u
-      go false ea false eb true ec d ed e ee f ef u = absurd u
-      go false ea false eb false ec true ed e ee f ef u = absurd u
-      go false ea false eb false ec false ed false ee f ef u = absurd u
-      go false ea false eb false ec false ed true ee false ef u = absurd u
-      go false ea false eb false ec false ed true ee true ef u = record {
-        log-long = ltb-false (length log) logLength ea;
-        pattern-long = ltb-false (length pattern) patternLength eb;
-        result-long = ltb-false (length result) resultLength ec;
-        work-long = ltb-false (length work) workLength ed;
-        is-pattern = subst T (sym ee) tt;
-        is-log = subst T (sym ef) tt;
+      let one = no-fault t in
+      let two = passed-others _ _ _ one in
+      let three = passed-others _ _ _ two in
+      let four = passed-others _ _ _ three in
+      let six = passed-others _ _ _ four in
+      let seven = passed-others _ _ _ six in
+      record {
+        log-long = ltb-false (length log) logLength (passed-first _ _ _ one);
+        pattern-long = ltb-false (length pattern) patternLength (passed-first _ _ _ two);
+        result-long = ltb-false (length result) resultLength (passed-first _ _ _ three);
+        work-long = ltb-false (length work) workLength (passed-first _ _ _ four);
+        is-pattern = granted (isPattern (take patternLength pattern)) (passed-first _ _ _ six);
+        is-log = granted (isLog (labelsIn (take patternLength pattern)) (take logLength log)) (passed-first _ _ _ seven);
       }
 
-  yes : (b : Bool) → T b → b ≡ true
-  yes true t = refl
-  yes false t = absurd t
+  given : (b : Bool) → T b → not b ≡ false
+  given true t = refl
+  given false t = absurd t
 
-  -- And conversely: who passes the tests is accepted, with the count.
+  -- and conversely: who passes the tests has no fault.
+  pub passed : Accepted pattern log result work → Passed faults
+  passed a =
+      passed-later _ _ _ (le-ltb (length log) logLength (a .log-long))
+      (passed-later _ _ _ (le-ltb (length pattern) patternLength (a .pattern-long))
+      (passed-later _ _ _ (le-ltb (length result) resultLength (a .result-long))
+      (passed-later _ _ _ (le-ltb (length work) workLength (a .work-long))
+      (passed-later _ _ _ (given (isPattern (take patternLength pattern)) (a .is-pattern))
+      (passed-later _ _ _ (given (isLog (labelsIn (take patternLength pattern)) (take logLength log)) (a .is-log)) none-left)))))
+
   pub answer-accepted : Accepted pattern log result work → judgeAnswer pattern log result work ≡ acceptedWith (wholeUpTo (logIn log) (patternIn pattern) (logIn log .size))
-  answer-accepted a =
-      rw (
-        le-ltb (length log) logLength (a .log-long),
-        le-ltb (length pattern) patternLength (a .pattern-long),
-        le-ltb (length result) resultLength (a .result-long),
-        le-ltb (length work) workLength (a .work-long),
-        yes (isPattern (take patternLength pattern)) (a .is-pattern),
-        yes (isLog (labelsIn (take patternLength pattern)) (take logLength log)) (a .is-log),
-      )
-
-  -- 6 comes before 7: a pattern buffer that no text gives is refused with 6, whatever the log is.
-  pub six-first : logLength ≤ length log → patternLength ≤ length pattern → resultLength ≤ length result → workLength ≤ length work
-      → isPattern (take patternLength pattern) ≡ false → judgeAnswer pattern log result work ≡ refusedAt 6 0
-  six-first a b c d e =
-      rw (le-ltb (length log) logLength a, le-ltb (length pattern) patternLength b, le-ltb (length result) resultLength c, le-ltb (length work) workLength d, e)
+  answer-accepted a = sym (accepted-answer faults _ _ (passed a) refl)
 
   pub accepted-call : Accepted pattern log result work → T (accepts pattern log result work)
   accepted-call a = subst (λ (x : Answer). T (eqb (x .number) 0)) (sym (answer-accepted a)) tt
 
   pub result-accepted : T (accepts pattern log result work) → resultAfter pattern log result work ≡ rowsOf (logIn log) (patternIn pattern) ++ drop resultLength result
-  result-accepted t = rw (yes (accepts pattern log result work) t)
+  result-accepted t = sym (room-filled faults result _ _ (no-fault t) refl)
+
+  pub work-accepted : T (accepts pattern log result work) → workAfter pattern log result work ≡ zeros workLength ++ drop workLength work
+  work-accepted t = sym (room-filled faults work _ _ (no-fault t) refl)
 
 -- ---- the rows, one after the other
 

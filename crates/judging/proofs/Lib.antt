@@ -1,9 +1,4 @@
 pub mod Calls
-pub mod Demands
-pub mod Exchanges
-pub mod Whole
-pub mod Cases
-pub mod CasesOfPasts
 pub mod Rows
 pub mod JudgeLaws
 pub mod FitLaws

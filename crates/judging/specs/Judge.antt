@@ -2,11 +2,12 @@
 -- Only the documented lengths of the pattern and the log buffer are looked at.
 use Prim.Native.Nat.{ℕ, zero, suc, _+_, _-_, _*_}
 use mathlib.Core.Bool.{Bool, not, cond}
-use mathlib.Core.List.{List, [], _++_}
+use mathlib.Core.List.{List, [], _∷_, _++_}
 use lib.Dec.{eqb, ltb}
 use lib.ListN.{length, take, drop, replicate}
 use Rattle.answer.specs.declared.Answer.{Answer}
 use Rattle.answer.specs.Answers.{acceptedWith, refusedAt}
+use Rattle.answer.specs.Faults.{Fault, when, firstFault, answerOr, keptOr}
 use Rattle.necklace.specs.Dag.{Dag}
 use Rattle.necklace.specs.Necklace.{Pattern}
 use Rattle.necklace.specs.Compute.{holds?, row}
@@ -35,16 +36,26 @@ unfoldable pub wholeUpTo : Dag → Pattern → ℕ → ℕ
 wholeUpTo G P zero = 0
 wholeUpTo G P (suc v) = wholeUpTo G P v + cond (holds? G P (P .count) v) 1 0
 
--- 1, 2, 3, 4: a buffer is shorter than documented; then 6, then 7. Accepted counts the steps at which the whole pattern holds.
+-- 6, then 7, of a pattern and a log buffer of their documented lengths.
+abbrev pub bufferFaults : List ℕ → List ℕ → List Fault
+bufferFaults pattern log =
+    when (not (isPattern pattern)) (refusedAt 6 0)
+    ∷ when (not (isLog (labelsIn pattern) log)) (refusedAt 7 0)
+    ∷ []
+
+-- The judge's refusals: 1, 2, 3, 4, a buffer is shorter than documented; then 6, then 7.
+abbrev pub judgeFaults : List ℕ → List ℕ → List ℕ → List ℕ → List Fault
+judgeFaults pattern log result work =
+    when (ltb (length log) logLength) (refusedAt 1 0)
+    ∷ when (ltb (length pattern) patternLength) (refusedAt 2 0)
+    ∷ when (ltb (length result) resultLength) (refusedAt 3 0)
+    ∷ when (ltb (length work) workLength) (refusedAt 4 0)
+    ∷ bufferFaults (take patternLength pattern) (take logLength log)
+
+-- Accepted counts the steps at which the whole pattern holds.
 abbrev pub judgeAnswer : List ℕ → List ℕ → List ℕ → List ℕ → Answer
 judgeAnswer pattern log result work =
-    cond (ltb (length log) logLength) (refusedAt 1 0)
-    (cond (ltb (length pattern) patternLength) (refusedAt 2 0)
-    (cond (ltb (length result) resultLength) (refusedAt 3 0)
-    (cond (ltb (length work) workLength) (refusedAt 4 0)
-    (cond (not (isPattern (take patternLength pattern))) (refusedAt 6 0)
-    (cond (not (isLog (labelsIn (take patternLength pattern)) (take logLength log))) (refusedAt 7 0)
-    (acceptedWith (wholeUpTo (logIn log) (patternIn pattern) (logIn log .size))))))))
+    answerOr (firstFault (judgeFaults pattern log result work)) (acceptedWith (wholeUpTo (logIn log) (patternIn pattern) (logIn log .size)))
 
 -- The call is accepted.
 abbrev pub accepts : List ℕ → List ℕ → List ℕ → List ℕ → Bool
@@ -54,9 +65,13 @@ accepts pattern log result work = eqb (judgeAnswer pattern log result work .numb
 abbrev pub rowsOf : Dag → Pattern → List ℕ
 rowsOf G P = rowsUpTo G P (G .size) ++ replicate (resultLength - rowLength * G .size) 0
 
+-- The row of a step: ten numbers of the result, starting at ten times the step's number.
+abbrev pub rowIn : List ℕ → ℕ → List ℕ
+rowIn result v = take rowLength (drop (rowLength * v) result)
+
 abbrev pub resultAfter : List ℕ → List ℕ → List ℕ → List ℕ → List ℕ
 resultAfter pattern log result work =
-    cond (accepts pattern log result work) (rowsOf (logIn log) (patternIn pattern) ++ drop resultLength result) result
+    keptOr (firstFault (judgeFaults pattern log result work)) result (rowsOf (logIn log) (patternIn pattern) ++ drop resultLength result)
 
 -- So many zeros.
 unfoldable pub zeros : ℕ → List ℕ
@@ -64,4 +79,4 @@ zeros n = replicate n 0
 
 -- The work buffer: all 0 after an accepted judging, the rest as it was.
 abbrev pub workAfter : List ℕ → List ℕ → List ℕ → List ℕ → List ℕ
-workAfter pattern log result work = cond (accepts pattern log result work) (zeros workLength ++ drop workLength work) work
+workAfter pattern log result work = keptOr (firstFault (judgeFaults pattern log result work)) work (zeros workLength ++ drop workLength work)

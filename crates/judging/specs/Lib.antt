@@ -1,5 +1,4 @@
 pub mod Limits
 pub mod Judge
-pub mod Demands
 pub mod Result
 pub mod Fit

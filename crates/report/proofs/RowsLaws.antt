@@ -8,8 +8,8 @@ use lib.ListN.{length, take, drop}
 use Rattle.text.specs.Split.{joined}
 use Rattle.writing.specs.Put.{Put}
 use Rattle.writing.proofs.PutLaws.{nothing-put, then}
-use Rattle.judging.specs.Demands.{rowIn}
 use Rattle.report.specs.Report.{headerText, rowText, rowLines}
+use Rattle.judging.specs.Judge.{rowIn}
 
 pub no-lines : (l result : List ℕ) (beads at : ℕ) → Put (rowLines beads 0 result) at l at l
 unfolding rowLines

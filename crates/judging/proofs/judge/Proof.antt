@@ -1,5 +1,6 @@
 -- Each refusal, and the judging, in document 01's order.
-use Rattle.judging.proofs.CallLaws.{part-kit, part-counts, one-answer, one-result, one-work, two-answer, two-result, two-work, three-answer, three-result, three-work, four-answer, four-result, four-work, call-answer, call-result, call-work}
+use Rattle.answer.proofs.FaultLaws.{fault-kit}
+use Rattle.judging.proofs.CallLaws.{part-kit, part-counts, call-answer, call-result, call-work}
 use borrow.Author.Needs.{needs}
 use Rattle.judging.proofs.judge.Statement.{statement}
 use Rattle.judging.proofs.judge.Tie as tie
@@ -8,25 +9,25 @@ refused-requires : tie.Need-refused-requires
 refused-requires c κs = search needs
 
 returns : tie.Need-returns
-returns c = (search (needs, one-answer), (search one-result, search one-work))
+returns c = (search (needs, fault-kit), (search (needs, fault-kit), search (needs, fault-kit)))
 
 refused-requires-2 : tie.Need-refused-requires-2
 refused-requires-2 c κs = search needs
 
 returns-2 : tie.Need-returns-2
-returns-2 c = (search (needs, two-answer), (search two-result, search two-work))
+returns-2 c = (search (needs, fault-kit), (search (needs, fault-kit), search (needs, fault-kit)))
 
 refused-requires-3 : tie.Need-refused-requires-3
 refused-requires-3 c κs = search needs
 
 returns-3 : tie.Need-returns-3
-returns-3 c = (search (needs, three-answer), (search three-result, search three-work))
+returns-3 c = (search (needs, fault-kit), (search (needs, fault-kit), search (needs, fault-kit)))
 
 refused-requires-4 : tie.Need-refused-requires-4
 refused-requires-4 c κs = search needs
 
 returns-4 : tie.Need-returns-4
-returns-4 c = (search (needs, four-answer), (search four-result, search four-work))
+returns-4 c = (search (needs, fault-kit), (search (needs, fault-kit), search (needs, fault-kit)))
 
 slice-aggregate-judge-fit : tie.Need-slice-aggregate-judge-fit
 slice-aggregate-judge-fit c = search (needs, part-counts)

@@ -1,4 +1,5 @@
 -- Tests 6 and 7, and then the judging.
+use Rattle.answer.proofs.FaultLaws.{fault-kit, pass-kit}
 use Rattle.judging.proofs.FitLaws.{fit-kit}
 use borrow.Author.Needs.{needs}
 use Rattle.judging.proofs.judge_fit.Statement.{statement}
@@ -26,19 +27,19 @@ same-length-2 : tie.Need-same-length-2
 same-length-2 c = search (needs, fit-kit)
 
 returns : tie.Need-returns
-returns c = search (needs, fit-kit)
+returns c = (search (needs, pass-kit, fit-kit), (search (needs, pass-kit, fit-kit), search (needs, pass-kit, fit-kit)))
 
 refused-requires : tie.Need-refused-requires
 refused-requires c κs = search (needs, fit-kit)
 
 returns-2 : tie.Need-returns-2
-returns-2 c = search (needs, fit-kit)
+returns-2 c = (search (needs, fault-kit), (search (needs, fault-kit), search (needs, fault-kit)))
 
 refused-requires-2 : tie.Need-refused-requires-2
 refused-requires-2 c κs = search (needs, fit-kit)
 
 returns-3 : tie.Need-returns-3
-returns-3 c = search (needs, fit-kit)
+returns-3 c = (search (needs, fault-kit), (search (needs, fault-kit), search (needs, fault-kit)))
 
 pub judge-fit-spec : {M : Type 1} → statement M
 judge-fit-spec =

@@ -37,13 +37,13 @@ use Rattle.necklace.specs.Past.{Alike, OnlyAdds}
 use Rattle.necklace.specs.Compute.{row, prefixes, pivots, before, seek, holds?, some?, all?, backward, pass}
 use Rattle.necklace.specs.Tests.{route?, past?, alike?, onlyAdds?}
 use Rattle.necklace.proofs.Tests.{alike-agrees, onlyAdds-agrees}
 use Rattle.judging.specs.Limits.{resultLength, workLength}
-use Rattle.judging.specs.Judge.{logIn, accepts, resultAfter, zeros}
-use Rattle.judging.specs.Demands.{rowIn, ruleHolds}
+use Rattle.judging.specs.Judge.{logIn, accepts, resultAfter, zeros, rowIn}
+use Rattle.demands.specs.Demands.{ruleHolds}
 use Rattle.judging.proofs.Calls.{accepted-call}
-use Rattle.judging.proofs.Whole.{whole, whole-row}
-use Rattle.judging.proofs.Demands.{equal-pasts, only-adds-some}
-use Rattle.judging.proofs.Cases.{listing-pattern, some-clean, listing-log, Case, rowUnder, rowBy, rowOfTexts, ten, tableUp, frontBuffer, frontRowBy, rows-same}
+use Rattle.demands.proofs.Whole.{whole, whole-row}
+use Rattle.demands.proofs.Demands.{equal-pasts, only-adds-some}
+use Rattle.demands.proofs.Cases.{listing-pattern, some-clean, listing-log, Case, rowUnder, rowBy, rowOfTexts, ten, tableUp, frontBuffer, frontRowBy, rows-same}
 
 -- The listing's log without its last step, with another board at each step, and with other labels and links at steps 2 and 4: the past of
 -- step 5, which is 0, 1, 3 and 5, is as it was.

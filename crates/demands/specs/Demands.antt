@@ -1,17 +1,13 @@
--- What demands 2 and 3 speak of, in terms of calls: the row of a step in the result, and patterns with states exchanged.
+-- What demands 2 and 3 speak of, in terms of calls: when a rule holds at a step, the count of rows, and patterns with states exchanged.
 use Prim.Native.Nat.{ℕ, zero, suc, _+_, _-_, _*_, _≤_}
 use mathlib.Core.Path.{_≡_}
 use mathlib.Core.Bool.{Bool, cond}
 use mathlib.Core.List.{List}
-use lib.ListN.{getD, set, take, drop}
+use lib.ListN.{getD, set}
 use Rattle.sets.specs.Sets.{member, complement}
 use Rattle.pattern_line.specs.Limits.{ruleAt, statesAt, acceptingAt}
 use Rattle.pattern_buffer.specs.Meaning.{at, labelsIn, beadsIn}
-use Rattle.judging.specs.Limits.{rowLength}
-
--- The row of a step: ten numbers of the result, starting at ten times the step's number.
-abbrev pub rowIn : List ℕ → ℕ → List ℕ
-rowIn result v = take rowLength (drop (rowLength * v) result)
+use Rattle.judging.specs.Judge.{rowIn}
 
 -- Under a pattern of one bead the rule holds at a step if bit 0 is set in its row.
 abbrev pub ruleHolds : List ℕ → ℕ → Bool

@@ -22,10 +22,9 @@ use Rattle.log_buffer.specs.Meaning.{logOf}
 use Rattle.log_buffer.specs.Valid.{isLog}
 use Rattle.log_buffer.proofs.LogBuffers.{given-passes}
 use Rattle.necklace.specs.Compute.{row}
 use Rattle.judging.specs.Limits.{resultLength, workLength}
-use Rattle.judging.specs.Judge.{patternIn, logIn, judgeAnswer, accepts, resultAfter}
-use Rattle.judging.specs.Demands.{rowIn}
+use Rattle.judging.specs.Judge.{patternIn, logIn, judgeAnswer, accepts, resultAfter, rowIn}
 use Rattle.judging.proofs.Calls.{Accepted, accepted-call, row-in-result}
 
 -- Two accepted texts, and buffers that hold what they give.
 module _ (pt lt : List ℕ) (k : PatternKnown) (m : LogKnown) (reads : patternText pt ≡ accepted k) (reads-log : logText (k .labels) lt ≡ accepted m)

@@ -21,10 +21,10 @@ use Rattle.pattern_buffer.specs.Meaning.{at, labelsIn, beadsIn, automatonOf}
 use Rattle.pattern_buffer.specs.Valid.{isPattern}
 use Rattle.pattern_buffer.proofs.Places.{Bead, Unused, Next, Passes, passes-out, passes-in, bead-there, next-there, unused-out, bead-in, next-in, next-unused}
 use Rattle.pattern_buffer.proofs.OneNext.{one-next}
 use Rattle.judging.specs.Judge.{logIn, accepts, resultAfter}
-use Rattle.judging.specs.Demands.{ruleHolds, Exchanged, exchangedBuffer}
+use Rattle.demands.specs.Demands.{ruleHolds, Exchanged, exchangedBuffer}
 use Rattle.judging.proofs.Calls.{Accepted, passed-all, accepted-call}
-use Rattle.judging.proofs.Demands.{dual}
+use Rattle.demands.proofs.Demands.{dual}
 
 -- The other states of the other states.
 complement-twice : (n s : ℕ) → s < 2 ^ n → complement n (complement n s) ≡ s

@@ -1,0 +1,6 @@
+pub mod Demands
+pub mod Exchanges
+pub mod Whole
+pub mod Cases
+pub mod CasesOfPasts
+pub mod Promise

@@ -1,0 +1,1 @@
+// Theorems about the judge's calls have no code.
