@@ -110,7 +110,6 @@ module _ (pattern log result work : List ℕ) where
     t : T (accepts pattern log result work)
     t = accepted-call pattern log result work a
 
-
     few : rowLength * logIn log .size ≤ resultLength
     few =
         let s = sound-iff (labelsIn (take patternLength pattern)) (take logLength log) .0 (a .is-log) .few-steps in

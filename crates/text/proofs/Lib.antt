@@ -4,3 +4,4 @@ pub mod PartLaws
 pub mod MarkLaws
 pub mod LineLaws
 pub mod WalkLaws
+pub mod FirstBadLaws
