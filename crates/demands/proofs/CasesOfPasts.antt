@@ -18,10 +18,12 @@ use Rattle.text.specs.Fields.{sameBytes}
 use Rattle.numbers.specs.Numbers.{digits, valueFrom, decimal}
 use Rattle.text.specs.Walk.{Outcome, accepted, faulty, walk}
 use Rattle.pattern_line.specs.Limits.{ruleAt, bufferLength as patternLength}
-use Rattle.pattern_line.specs.Header.{sameFields, nameBytes, areNames, among, distinct}
-use Rattle.pattern_line.specs.Row.{areNumbers as areNumbersIn, followsLast, breaksTurns, statesOf, allWithin, allSingle}
-use Rattle.pattern.specs.Format.{Known as PatternKnown, patternText}
-use Rattle.pattern.specs.Buffer.{beadCount, ruleOfBead, acceptingOf, nextOf, bufferOf as patternBuffer}
+use Rattle.pattern_header.specs.Header.{sameFields, nameBytes, areNames, among, distinct}
+use Rattle.pattern_row.specs.Fields.{areNumbers as areNumbersIn}
+use Rattle.pattern_order.specs.Row.{followsLast, breaksTurns}
+use Rattle.pattern_rows.specs.Next.{statesOf, allWithin, allSingle}
+use Rattle.pattern_rows.specs.Format.{Known as PatternKnown, patternText}
+use Rattle.pattern_rows.specs.Buffer.{beadCount, ruleOfBead, acceptingOf, nextOf, bufferOf as patternBuffer}
 use Rattle.pattern_buffer.specs.Meaning.{beadsIn, patternOf}
 use Rattle.pattern_buffer.proofs.Buffers.{length-buffer}
 use Rattle.log_line.specs.Limits.{boardAt, bufferLength as logLength}

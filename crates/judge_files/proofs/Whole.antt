@@ -14,7 +14,7 @@ use Rattle.answer.specs.Answers.{refusedAt}
 use Rattle.text.specs.Walk.{badSize}
 use Rattle.pattern_line.specs.Limits.{mostText as patternMost, bufferLength as patternLength}
 use Rattle.log_line.specs.Limits.{mostText as logMost, bufferLength as logLength}
-use Rattle.pattern.specs.Buffer.{patternAnswer}
+use Rattle.pattern.specs.Answer.{patternAnswer}
 use Rattle.log.specs.Buffer.{badCount, logAnswer}
 use Rattle.judge_files.specs.Files.{PatternRead, LogRead}
 

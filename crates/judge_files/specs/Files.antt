@@ -8,7 +8,7 @@ use lib.ListN.{length, getD, take}
 use Rattle.answer.specs.declared.Answer.{Answer}
 use Rattle.pattern_line.specs.Limits.{mostText as patternMost}
 use Rattle.log_line.specs.Limits.{mostText as logMost}
-use Rattle.pattern.specs.Buffer.{patternAnswer, patternAfter}
+use Rattle.pattern.specs.Answer.{patternAnswer, patternAfter}
 use Rattle.log.specs.Buffer.{logAnswer, logAfter}
 use Rattle.judging.specs.Judge.{judgeAnswer, resultAfter, workAfter}
 

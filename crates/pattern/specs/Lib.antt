@@ -1,5 +1,2 @@
-pub mod Format
-pub mod Buffer
-pub mod Store
-pub mod Late
 pub mod Reading
+pub mod Answer

@@ -1,14 +1,12 @@
 // The pattern reader: from a text to the numbers of a pattern buffer, or the refusal of document 01 that applies.
 ghost use mathlib.Core.Path.{_≡_};
-ghost use Rattle.pattern.specs.Buffer.{patternAnswer, patternAfter};
+ghost use Rattle.pattern.specs.Answer.{patternAnswer, patternAfter};
 use crate::reading::TextAnswer;
 use crate::reading::read_text;
 use answer::Answer;
 use pattern_line::refusals::number_of;
 
-pub mod late;
-pub mod reading;
-pub mod store;
+mod reading;
 
 // Reads the text into a buffer of its own and copies that into the lent one where the text is accepted, so a refusal changes nothing.
 pub fn read_pattern(text: &[u8], pattern: &mut [u16]) -> Answer

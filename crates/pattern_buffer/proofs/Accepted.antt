@@ -12,9 +12,11 @@ use Rattle.text.specs.Split.{split}
 use Rattle.text.specs.Lines.{TextLine, linesOf, whole}
 use Rattle.text.specs.Walk.{Judged, refused, passed, Outcome, accepted, faulty, proceed, walk, badSize, readText}
 use Rattle.pattern_line.specs.Limits.{mostLine, mostLabels, mostText}
-use Rattle.pattern_line.specs.Header.{columns, sameFields, areNames, distinct, isHeader, labelCount}
-use Rattle.pattern_line.specs.Row.{Row, rowOf, malformed, disordered, misruled, strays, ambiguous}
-use Rattle.pattern.specs.Format.{Known, judgeRow, judgeLine, patternFormat, judgeNext, conclude, patternText}
+use Rattle.pattern_header.specs.Header.{columns, sameFields, areNames, distinct, isHeader, labelCount}
+use Rattle.pattern_order.specs.Row.{Row, disordered, misruled}
+use Rattle.pattern_row.specs.Fields.{rowOf, malformed}
+use Rattle.pattern_rows.specs.Next.{strays, ambiguous}
+use Rattle.pattern_rows.specs.Format.{Known, judgeRow, judgeLine, patternFormat, judgeNext, conclude, patternText}
 use Rattle.pattern_buffer.proofs.Ordered.{origin, Ordered, start, more}
 use Rattle.pattern_buffer.proofs.RowTests.{and-true, last-positive, row-out, rule-most, labelled-out}
 

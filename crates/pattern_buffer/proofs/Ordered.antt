@@ -8,8 +8,9 @@ use native.Mathlib.Decide.{ℕ-discrete, decLt}
 use native.Mathlib.Omega.{arith}
 use lib.ListN.{length}
 use Rattle.pattern_line.specs.Limits.{mostBeads, mostStates}
-use Rattle.pattern_line.specs.Row.{Row, statesOf}
-use Rattle.pattern.specs.Buffer.{beadCount, ruleOfBead}
+use Rattle.pattern_order.specs.Row.{Row}
+use Rattle.pattern_rows.specs.Next.{statesOf}
+use Rattle.pattern_rows.specs.Buffer.{beadCount, ruleOfBead}
 use Rattle.pattern_buffer.proofs.Rows.{states-nil, states-append, states-here, states-other, rule-here, rule-other, rule-nil}
 use Rattle.pattern_buffer.proofs.Rows.{rule-found, rule-later, beads-nil, beads-snoc}
 

@@ -11,7 +11,8 @@ use lib.ListN.{length, getD, drop, length-drop, length-map}
 use Rattle.text.specs.Fields.{sameBytes}
 use Rattle.numbers.specs.Numbers.{isNumber, valueOf}
 use Rattle.pattern_line.specs.Limits.{mostBeads, mostStates}
-use Rattle.pattern_line.specs.Row.{Row, ruleOf, rowOf, areNumbers, malformed, followsLast, disordered, breaksTurns, misruled}
+use Rattle.pattern_order.specs.Row.{Row, followsLast, disordered, breaksTurns, misruled}
+use Rattle.pattern_row.specs.Fields.{ruleOf, rowOf, areNumbers, malformed}
 use Rattle.pattern_buffer.proofs.Ordered.{Follows, same-bead, next-bead, Fits, Ordered, start, more, told}
 
 -- ---- tests as Bools

@@ -8,8 +8,9 @@ use native.Mathlib.Omega.{arith}
 use borrow.Author.Tests.{eq-eqb, ne-eqb, eqb-true, eqb-false}
 use lib.Dec.{eqb}
 use lib.ListN.{getD}
-use Rattle.pattern_line.specs.Row.{Row, statesOf}
-use Rattle.pattern.specs.Buffer.{beadCount, ruleOfBead, isAt, acceptingOf, nextOf}
+use Rattle.pattern_order.specs.Row.{Row}
+use Rattle.pattern_rows.specs.Next.{statesOf}
+use Rattle.pattern_rows.specs.Buffer.{beadCount, ruleOfBead, isAt, acceptingOf, nextOf}
 
 -- ---- how many states a bead has
 

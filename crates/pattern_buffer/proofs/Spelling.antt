@@ -17,7 +17,8 @@ use Rattle.numbers.specs.Numbers.{digit, digits, largest, answer, numberOf, val
 use Rattle.numbers.specs.declared.Number.the-variants.{Value}
 use Rattle.text.proofs.SplitLaws.{split-at, split-on, split-empty, split-some}
 use Rattle.numbers.proofs.Spelling.{decimal-out, spelling-reads}
-use Rattle.pattern_line.specs.Row.{Row, ruleOf, rowOf, areNumbers, malformed}
+use Rattle.pattern_order.specs.Row.{Row}
+use Rattle.pattern_row.specs.Fields.{ruleOf, rowOf, areNumbers, malformed}
 use Rattle.pattern_buffer.proofs.RowTests.{and-true}
 use Rattle.pattern_buffer.specs.Spelled.{ruleWord, fieldsOf}
 

@@ -18,9 +18,11 @@ use Rattle.text.specs.Lines.{TextLine, linesOf, printable, whole}
 use Rattle.numbers.specs.Numbers.{largest, spellIn}
 use Rattle.text.specs.Walk.{Judged, refused, passed, accepted, walk, readText}
 use Rattle.pattern_line.specs.Limits.{mostText, mostLine, mostStates, mostLabels, ruleAt, statesAt, nextAt}
-use Rattle.pattern_line.specs.Header.{columns, sameFields, nameBytes, areNames, among, distinct, isHeader, labelCount}
-use Rattle.pattern_line.specs.Row.{Row, statesOf, rowOf, malformed, disordered, misruled, allWithin, strays, ambiguous}
-use Rattle.pattern.specs.Format.{Known, judgeRow, judgeLine, patternFormat, judgeNext, conclude, patternText}
+use Rattle.pattern_header.specs.Header.{columns, sameFields, nameBytes, areNames, among, distinct, isHeader, labelCount}
+use Rattle.pattern_order.specs.Row.{Row, disordered, misruled}
+use Rattle.pattern_rows.specs.Next.{statesOf, allWithin, strays, ambiguous}
+use Rattle.pattern_row.specs.Fields.{rowOf, malformed}
+use Rattle.pattern_rows.specs.Format.{Known, judgeRow, judgeLine, patternFormat, judgeNext, conclude, patternText}
 use Rattle.lists.specs.Tables.{table}
 use Rattle.pattern_buffer.specs.Meaning.{at, labelsIn, beadsIn}
 use Rattle.sets.specs.Sets.{allBelow}

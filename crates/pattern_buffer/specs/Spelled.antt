@@ -7,8 +7,8 @@ use Rattle.sets.specs.Sets.{member}
 use Rattle.text.specs.Split.{joined}
 use Rattle.numbers.specs.Numbers.{spell}
 use Rattle.pattern_line.specs.Limits.{ruleAt, statesAt, acceptingAt, nextAt}
-use Rattle.pattern_line.specs.Header.{columns}
-use Rattle.pattern_line.specs.Row.{Row}
+use Rattle.pattern_header.specs.Header.{columns}
+use Rattle.pattern_order.specs.Row.{Row}
 use Rattle.lists.specs.Tables.{table}
 use Rattle.pattern_buffer.specs.Meaning.{at, labelsIn, beadsIn}
 

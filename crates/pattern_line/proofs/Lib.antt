@@ -1,4 +1,2 @@
 pub mod Lists
 pub mod WordLaws
-pub mod HeaderLaws
-pub mod RowLaws

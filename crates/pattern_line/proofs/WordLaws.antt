@@ -4,7 +4,7 @@ use mathlib.Core.Path.{_≡_, refl, sym, ap, _∙_}
 use mathlib.Core.Bool.{Bool}
 use mathlib.Core.List.{List, []}
 use Prim.Native.Nat.{ℕ, _-_, _≤_}
-use lib.ListN.{length, getD, take, drop, List·getD-eq-default}
+use lib.ListN.{length, take, drop, List·getD-eq-default}
 use Rattle.text.specs.Fields.{fieldOf, sameBytes}
 use Rattle.numbers.specs.Numbers.{decimal, numberOf}
 use Rattle.text.specs.declared.fields.Field.{Field}
@@ -13,7 +13,6 @@ use Rattle.numbers.specs.declared.Number.{Number}
 use Rattle.numbers.specs.declared.Number.the-variants.{Malformed}
 use Rattle.text.proofs.FieldLaws.{Selects, field-selects, field-missing}
 use Rattle.pattern_line.specs.Line.{fieldsOf, fieldAt}
-use Rattle.pattern_line.specs.Header.{nameBytes, isName}
 
 -- No bytes are no number.
 pub number-empty : numberOf [] ≡ Malformed
@@ -28,9 +27,6 @@ module _ (line : List ℕ) (i : ℕ) (r : Field) (given : r ≡ fieldOf 32 line 
     pub number-absent : Malformed ≡ numberOf (fieldAt line i)
     number-absent = sym (ap numberOf absent ∙ number-empty)
 
-    pub name-absent : (t : Bool) → t ≡ isName [] → t ≡ isName (fieldAt line i)
-    name-absent t e = e ∙ ap isName (sym absent)
-
     pub word-absent : (w : List ℕ) (t : Bool) → t ≡ sameBytes [] w → t ≡ sameBytes (fieldAt line i) w
     word-absent w t e = e ∙ ap (λ (f : List ℕ). sameBytes f w) (sym absent)
 
@@ -38,7 +34,7 @@ module _ (line : List ℕ) (i : ℕ) (r : Field) (given : r ≡ fieldOf 32 line 
     other-absent f t e = e ∙ ap (sameBytes f) (sym absent)
 
   module _ (from to : ℕ) (p : r ≡ At from to) where
-    selects : Selects 32 line i from to
+    pub selects : Selects 32 line i from to
     selects = field-selects 32 line i from to (sym given ∙ p)
 
     pub ordered : from ≤ to
@@ -50,13 +46,10 @@ module _ (line : List ℕ) (i : ℕ) (r : Field) (given : r ≡ fieldOf 32 line 
     pub number-there : (n : Number) → n ≡ numberOf (take (to - from) (drop from line)) → n ≡ numberOf (fieldAt line i)
     number-there n e = e ∙ ap numberOf (selects .bytes)
 
-    pub name-there : (t : Bool) → t ≡ isName (take (to - from) (drop from line)) → t ≡ isName (fieldAt line i)
-    name-there t e = e ∙ ap isName (selects .bytes)
-
     pub word-there : (w : List ℕ) (t : Bool) → t ≡ sameBytes (take (to - from) (drop from line)) w → t ≡ sameBytes (fieldAt line i) w
     word-there w t e = e ∙ ap (λ (f : List ℕ). sameBytes f w) (selects .bytes)
 
     pub other-there : (f : List ℕ) (t : Bool) → t ≡ sameBytes f (take (to - from) (drop from line)) → t ≡ sameBytes f (fieldAt line i)
     other-there f t e = e ∙ ap (sameBytes f) (selects .bytes)
 
-pub ruleset kit = (ordered, inside, number-absent, number-there, word-absent, word-there, other-absent, other-there, name-absent, name-there)
+pub ruleset kit = (ordered, inside, number-absent, number-there, word-absent, word-there, other-absent, other-there)

@@ -1,5 +1,3 @@
 pub mod Limits
 pub mod Line
-pub mod Header
-pub mod Row
 pub mod Answers

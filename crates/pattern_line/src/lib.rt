@@ -1,5 +1,3 @@
-// One line of a pattern: its fields, the header, a row. Each is judged by its fields and the line before it.
-pub mod header;
+// What the lines of a pattern share: the refusals, and the fields of a line by their index.
 pub mod refusals;
-pub mod row;
 pub mod words;

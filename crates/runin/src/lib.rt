@@ -1,7 +1,7 @@
 // The three jobs, exported to C, and nothing else.
 ghost use mathlib.Core.Path.{_≡_};
 ghost use Rattle.answer.specs.Answers.{codeOf};
-ghost use Rattle.pattern.specs.Buffer.{patternAnswer, patternAfter};
+ghost use Rattle.pattern.specs.Answer.{patternAnswer, patternAfter};
 ghost use Rattle.log.specs.Buffer.{logAnswer, logAfter};
 ghost use Rattle.judging.specs.Judge.{judgeAnswer, resultAfter, workAfter};
 

@@ -1,7 +1,6 @@
 -- The length of the lent buffer, then the text, then the copy.
 use borrow.Author.Needs.{needs}
 use Rattle.pattern.proofs.ReadingLaws.{pattern-kit}
-use borrow.Author.Needs.{needs}
 use Rattle.pattern.proofs.read_pattern.Statement.{statement}
 use Rattle.pattern.proofs.read_pattern.Tie as tie
 

@@ -1,7 +1,6 @@
 -- The first number is the label count.
 use borrow.Author.Needs.{needs}
 use Rattle.pattern.proofs.ReadingLaws.{begin-kit}
-use borrow.Author.Needs.{needs}
 use Rattle.pattern.proofs.reading.begin.Statement.{statement}
 use Rattle.pattern.proofs.reading.begin.Tie as tie
 

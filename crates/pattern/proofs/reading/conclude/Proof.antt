@@ -1,7 +1,6 @@
 -- That there is a row, then the slots.
 use borrow.Author.Needs.{needs}
 use Rattle.pattern.proofs.ReadingLaws.{conclude-kit}
-use borrow.Author.Needs.{needs}
 use Rattle.pattern.proofs.reading.conclude.Statement.{statement}
 use Rattle.pattern.proofs.reading.conclude.Tie as tie
 

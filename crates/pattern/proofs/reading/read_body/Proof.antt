@@ -1,7 +1,6 @@
 -- The rows, then the conclusion.
 use borrow.Author.Needs.{needs}
 use Rattle.pattern.proofs.ReadingLaws.{text-kit}
-use borrow.Author.Needs.{needs}
 use Rattle.pattern.proofs.reading.read_body.Statement.{statement}
 use Rattle.pattern.proofs.reading.read_body.Tie as tie
 

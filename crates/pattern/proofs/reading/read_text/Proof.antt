@@ -1,7 +1,6 @@
 -- The header, then what follows it.
 use borrow.Author.Needs.{needs}
 use Rattle.pattern.proofs.ReadingLaws.{text-kit}
-use borrow.Author.Needs.{needs}
 use Rattle.pattern.proofs.reading.read_text.Statement.{statement}
 use Rattle.pattern.proofs.reading.read_text.Tie as tie
 

@@ -1,7 +1,6 @@
 -- The field found is read as a number; a field that is missing is none.
 use borrow.Author.Needs.{needs}
 use Rattle.pattern_line.proofs.WordLaws.{kit}
-use borrow.Author.Needs.{needs}
 use Rattle.pattern_line.proofs.words.number_at.Statement.{statement}
 use Rattle.pattern_line.proofs.words.number_at.Tie as tie
 

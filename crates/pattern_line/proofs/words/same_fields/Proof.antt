@@ -1,7 +1,6 @@
 -- The second field found, or no bytes, is the word for the first.
 use borrow.Author.Needs.{needs}
 use Rattle.pattern_line.proofs.WordLaws.{kit}
-use borrow.Author.Needs.{needs}
 use Rattle.pattern_line.proofs.words.same_fields.Statement.{statement}
 use Rattle.pattern_line.proofs.words.same_fields.Tie as tie
 

@@ -1,7 +1,6 @@
 -- The field found, or no bytes, is compared with the word.
 use borrow.Author.Needs.{needs}
 use Rattle.pattern_line.proofs.WordLaws.{kit}
-use borrow.Author.Needs.{needs}
 use Rattle.pattern_line.proofs.words.word_at.Statement.{statement}
 use Rattle.pattern_line.proofs.words.word_at.Tie as tie
 

@@ -1,0 +1,132 @@
+// A line below the header: its fields, then what it says.
+ghost use mathlib.Core.Path.{_≡_};
+ghost use lib.ListN.{length, drop};
+ghost use Rattle.text.specs.Fields.{Marked};
+ghost use Rattle.numbers.specs.Numbers.{isNumber, valueOf};
+ghost use Rattle.pattern_line.specs.Line.{fieldsOf, fieldAt};
+ghost use Rattle.pattern_order.specs.Answers.{lineSaid, rowsAt};
+ghost use Rattle.pattern_row.specs.Fields.{ruleOf, areNumbers};
+ghost use Rattle.pattern_row.specs.Answers.{rowJudged, nextSets};
+use numbers::Number;
+use pattern_line::refusals::Refusal;
+use pattern_line::words::number_at;
+use pattern_line::words::word_at;
+use pattern_order::Last;
+use pattern_order::LineAnswer;
+use pattern_order::LineValues;
+use pattern_order::judge_values;
+
+fn rule_at(line: &[u8], marks: &[usize]) -> u16
+    requires { ⌜ Marked 32 (now line) (now marks) ⌝ }
+    ensures { λ r. ⌜ r ≡ ruleOf (fieldAt (now (line .entry)) 1) ⌝ }
+{
+    if word_at(line, marks, 1, b"SOME") {
+        return 1;
+    }
+    if word_at(line, marks, 1, b"ALL") {
+        return 2;
+    }
+    0
+}
+
+// Is it a number?
+fn is_number_at(line: &[u8], marks: &[usize], index: usize) -> bool
+    requires { ⌜ Marked 32 (now line) (now marks) ⌝ }
+    ensures { λ r. ⌜ r ≡ isNumber (fieldAt (now (line .entry)) index) ⌝ }
+{
+    match number_at(line, marks, index) {
+        Number::Malformed => false,
+        Number::Value(_) => true,
+    }
+}
+
+// Are all fields after the first four numbers?
+fn are_numbers(line: &[u8], marks: &[usize]) -> bool
+    requires { ⌜ Marked 32 (now line) (now marks) ⌝ }
+    ensures { λ r. ⌜ r ≡ areNumbers (drop 4 (fieldsOf (now (line .entry)))) ⌝ }
+{
+    let count = text::fields::marked_count(line, 32, marks);
+    let mut i = 4;
+    while i < count {
+        if !is_number_at(line, marks, i) {
+            return false;
+        }
+        i += 1;
+    }
+    true
+}
+
+// The number of a field; 0 where it is none.
+fn value_at(line: &[u8], marks: &[usize], index: usize) -> u16
+    requires { ⌜ Marked 32 (now line) (now marks) ⌝ }
+    ensures { λ r. ⌜ r ≡ valueOf (fieldAt (now (line .entry)) index) ⌝ }
+{
+    match number_at(line, marks, index) {
+        Number::Malformed => 0,
+        Number::Value(v) => v,
+    }
+}
+
+// The next sets: the numbers of the fields after the first four, and 0 for the labels that the line lacks.
+fn read_next(line: &[u8], marks: &[usize], next: &mut [u16])
+    requires { ⌜ Marked 32 (now line) (now marks) ⌝ }
+    requires { ⌜ length (now next) ≡ 16 ⌝ }
+    ensures { λ _. ⌜ now (next .exit) ≡ nextSets (fieldsOf (now (line .entry))) ⌝ }
+{
+    let mut a = 0;
+    while a < 16 {
+        next[a] = value_at(line, marks, 4 + a);
+        a += 1;
+    }
+}
+
+// The same for a line whose fields are marked.
+fn read_marked(
+    line: &[u8],
+    marks: &[usize],
+    labels: u16,
+    last: Last,
+    next: &mut [u16],
+) -> LineAnswer
+    requires { ⌜ Marked 32 (now line) (now marks) × (length (now next) ≡ 16) ⌝ }
+    ensures { λ r. ⌜ lineSaid r ≡ rowJudged labels (rowsAt last) (fieldsOf (now (line .entry))) ⌝ }
+    ensures { λ _. ⌜ now (next .exit) ≡ nextSets (fieldsOf (now (line .entry))) ⌝ }
+{
+    read_next(line, marks, next);
+    if text::fields::marked_count(line, 32, marks) != 4 + labels as usize {
+        return LineAnswer::Refused(Refusal::Malformed);
+    }
+    if !are_numbers(line, marks) {
+        return LineAnswer::Refused(Refusal::Malformed);
+    }
+    let rule = rule_at(line, marks);
+    match number_at(line, marks, 0) {
+        Number::Malformed => LineAnswer::Refused(Refusal::Malformed),
+        Number::Value(bead) => match number_at(line, marks, 2) {
+            Number::Malformed => LineAnswer::Refused(Refusal::Malformed),
+            Number::Value(state) => match number_at(line, marks, 3) {
+                Number::Malformed => LineAnswer::Refused(Refusal::Malformed),
+                Number::Value(accepting) => judge_values(
+                    LineValues {
+                        bead,
+                        rule,
+                        state,
+                        accepting,
+                    },
+                    last,
+                ),
+            },
+        },
+    }
+}
+
+// What the line says after the line before; its next sets are left in `next`. The line is split once.
+pub fn read_row(line: &[u8], labels: u16, last: Last, next: &mut [u16]) -> LineAnswer
+    requires { ⌜ length (now next) ≡ 16 ⌝ }
+    ensures { λ r. ⌜ lineSaid r ≡ rowJudged labels (rowsAt last) (fieldsOf (now (line .entry))) ⌝ }
+    ensures { λ _. ⌜ now (next .exit) ≡ nextSets (fieldsOf (now (line .entry))) ⌝ }
+{
+    let mut marks = [0usize; 24];
+    text::fields::mark_fields(line, 32, &mut marks);
+    read_marked(line, &marks, labels, last, next)
+}

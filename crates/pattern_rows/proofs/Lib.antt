@@ -1,0 +1,4 @@
+pub mod StoreLaws
+pub mod RowsLaws
+pub mod BufferLaws
+pub mod Listing
