@@ -5,13 +5,14 @@ use mathlib.Core.List.{List, [], _∷_, _++_, map}
 use Prim.Native.Nat.{ℕ}
 use lib.ListN.{getD}
 use Rattle.text.specs.Split.{split}
-use Rattle.text.specs.Fields.{sameBytes}
+use Rattle.fields.specs.Fields.{sameBytes}
 use Rattle.text.specs.Lines.{asLines, printable}
 use Rattle.numbers.specs.Numbers.{digits, valueFrom, decimal}
 use Rattle.text.specs.Walk.{accepted, faulty, walk}
 use Rattle.log_line.specs.Limits.{labelsAt, boardAt, beginAt, linkAt}
 use Rattle.log_line.specs.Header.{placeOf}
-use Rattle.log_line.specs.Step.{Step, areNumbers, risingBelow, linkCount}
+use Rattle.numbers.specs.Listed.{areNumbers}
+use Rattle.log_line.specs.Step.{Step, risingBelow, linkCount}
 use Rattle.log_line.specs.Format.{logText}
 use Rattle.log.specs.Buffer.{begins, links, bufferOf}
 

@@ -1,5 +1,3 @@
-pub mod NumberLaws
 pub mod PredLaws
-pub mod ColumnLaws
 pub mod HeaderLaws
 pub mod StepLaws

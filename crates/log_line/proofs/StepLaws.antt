@@ -10,11 +10,12 @@ use lib.Dec.{ltb, eqb}
 use lib.ListN.{length, getD, take, drop}
 use Rattle.sets.specs.Sets.{within}
 use Rattle.text.specs.Split.{split}
-use Rattle.text.specs.Fields.{fieldOf, sameBytes}
+use Rattle.fields.specs.Fields.{fieldOf, sameBytes}
 use Rattle.numbers.specs.Numbers.{decimal, numberOf, isNumber, valueOf}
-use Rattle.text.specs.declared.fields.Field.{Field}
-use Rattle.text.specs.declared.fields.Field.the-variants.{At, Missing}
-use Rattle.log_line.specs.Step.{Step, predsOf, areNumbers, areNumbersAt, arePreds, malformed, mislinked, mislabelled, linkCount, overLimit}
+use Rattle.fields.specs.declared.Field.{Field}
+use Rattle.fields.specs.declared.Field.the-variants.{At, Missing}
+use Rattle.numbers.specs.Listed.{listOf, areNumbers, isList}
+use Rattle.log_line.specs.Step.{Step, areNumbersAt, malformed, mislinked, mislabelled, linkCount, overLimit}
 use Rattle.log_line.specs.Format.{Known}
 use Rattle.log_line.specs.Answers.{orderOf, InLimits, ValuesJudged, StepJudged}
 use Rattle.log_line.specs.declared.refusals.Refusal.the-variants.{Malformed, Number, Links, Labels, Limit}
@@ -25,19 +26,19 @@ use Rattle.log_line.specs.Header.{Columns}
 use Rattle.log_line.specs.Scan.{Scanned, JudgedBy, NumbersBy, LineBy}
 use Rattle.numbers.specs.declared.Number.{Number as ReadNumber}
 use Rattle.numbers.specs.declared.Number.the-variants.{Value, Malformed as Malformed-number}
-use Rattle.log_line.proofs.NumberLaws.{not-number, is-number, value-some}
+use Rattle.numbers.proofs.ValueLaws.{not-number, is-number, value-some}
 use Rattle.log_line.specs.declared.preds.PredScan.{PredScan}
-use Rattle.log_line.proofs.ColumnLaws.{field-none, field-ordered, field-inside, field-bytes}
+use Rattle.fields.proofs.FoundLaws.{found-none, found-ordered, found-inside, found-bytes}
 
 -- ---- the field `preds` by its index
 
-empty-preds : arePreds [] ≡ false
+empty-preds : isList [] ≡ false
 unfolding sameBytes areNumbers split decimal
 empty-preds = refl
 
 module _ (l : List ℕ) (i : ℕ) (r : Field) (given : r ≡ fieldOf 32 l i) where
-  preds-missing : r ≡ Missing → false ≡ arePreds (getD (split 32 l) i [])
-  preds-missing p = sym (ap arePreds (field-none l i r given p) ∙ empty-preds)
+  preds-missing : r ≡ Missing → false ≡ isList (getD (split 32 l) i [])
+  preds-missing p = sym (ap isList (found-none 32 l i r given p) ∙ empty-preds)
 
 -- ---- 21
 
@@ -48,7 +49,7 @@ or-last false false true = refl
 or-last false false false = refl
 
 -- A line without the field `preds` is malformed.
-preds-needed : (o : ColumnOrder) (fs : List (List ℕ)) → false ≡ arePreds (getD fs (o .preds) []) → malformed (orderOf o) fs ≡ true
+preds-needed : (o : ColumnOrder) (fs : List (List ℕ)) → false ≡ isList (getD fs (o .preds) []) → malformed (orderOf o) fs ≡ true
 preds-needed o fs e =
     rw (← e) (or-last (not (eqb (length fs) 4))
     (not (areNumbersAt (orderOf o) fs))
@@ -96,32 +97,32 @@ in-limits n v before e = go (ltb 8 n) refl (ltb v 1024) refl (ltb 4096 (before +
 
 -- ---- 24, 25, 26 of the values
 
-module _ (count v before board set : ℕ) (f preds : List ℕ) (t : Bool) (linked : t ≡ mislinked v (predsOf f)) where
+module _ (count v before board set : ℕ) (f preds : List ℕ) (t : Bool) (linked : t ≡ mislinked v (listOf f)) where
   abbrev said : Step
-  said = record { board = board; labels = set; preds = predsOf f }
+  said = record { board = board; labels = set; preds = listOf f }
 
   pub values-links : length preds ≡ 8 → t ≡ true
-      → ValuesJudged count v before (record { board = board; labels = set; preds = predsOf f }) (Refused Links) preds
+      → ValuesJudged count v before (record { board = board; labels = set; preds = listOf f }) (Refused Links) preds
   values-links z e = record { size = z; limits = tt; judged = λ k q. sym (rw (← linked, e)) }
 
   module _ (t-no : t ≡ false) (u : Bool) (labelled : u ≡ mislabelled count v set) where
     pub values-labels : length preds ≡ 8 → u ≡ true
-        → ValuesJudged count v before (record { board = board; labels = set; preds = predsOf f }) (Refused Labels) preds
+        → ValuesJudged count v before (record { board = board; labels = set; preds = listOf f }) (Refused Labels) preds
     values-labels z e = record { size = z; limits = tt; judged = λ k q. sym (rw (← linked, t-no, ← labelled, e)) }
 
-    module _ (u-no : u ≡ false) (n : ℕ) (counted : n ≡ length (predsOf f)) (w : Bool) (limit : w ≡ over n v before) where
-      over-is : (k : Known) → linkCount (k .steps) ≡ before → overLimit (k .steps) v (predsOf f) ≡ w
+    module _ (u-no : u ≡ false) (n : ℕ) (counted : n ≡ length (listOf f)) (w : Bool) (limit : w ≡ over n v before) where
+      over-is : (k : Known) → linkCount (k .steps) ≡ before → overLimit (k .steps) v (listOf f) ≡ w
       over-is k q = rw (q, ← counted) (sym limit)
 
       pub values-over : length preds ≡ 8 → w ≡ true
-          → ValuesJudged count v before (record { board = board; labels = set; preds = predsOf f }) (Refused Limit) preds
+          → ValuesJudged count v before (record { board = board; labels = set; preds = listOf f }) (Refused Limit) preds
       values-over z e = record { size = z; limits = tt; judged = λ k q. sym (rw (← linked, t-no, ← labelled, u-no, over-is k q, e)) }
 
-      pub values-few : w ≡ false → length (predsOf f) ≤ 8
+      pub values-few : w ≡ false → length (listOf f) ≤ 8
       values-few e = let h = in-limits n v before (sym limit ∙ e) .few in omega arith
 
-      pub values-right : length preds ≡ 8 → w ≡ false → predsOf f ≡ take (length (predsOf f)) preds
-          → ValuesJudged count v before (record { board = board; labels = set; preds = predsOf f })
+      pub values-right : length preds ≡ 8 → w ≡ false → listOf f ≡ take (length (listOf f)) preds
+          → ValuesJudged count v before (record { board = board; labels = set; preds = listOf f })
           (Values (record { board = board; labels = set; count = n })) preds
       values-right z e s = record {
         size = z;
@@ -166,7 +167,7 @@ refused-21 count v before c fs preds z e = record { size = z; limits = tt; judge
 
 numbers-in : (c : Columns) (fs : List (List ℕ)) (x b s : ℕ) → length fs ≡ 4 → Value x ≡ numberOf (getD fs (c .vertex) [])
     → Value b ≡ numberOf (getD fs (c .board) []) → Value s ≡ numberOf (getD fs (c .labels) [])
-    → malformed c fs ≡ (ltb 255 b || not (arePreds (getD fs (c .preds) [])))
+    → malformed c fs ≡ (ltb 255 b || not (isList (getD fs (c .preds) [])))
 numbers-in c fs x b s four px pb ps =
     rw (four, ← is-number _ (Value x) px x refl, ← is-number _ (Value b) pb b refl, ← is-number _ (Value s) ps s refl, ← value-some _ (Value b) pb b refl)
 
@@ -253,10 +254,10 @@ module _ (count v before : ℕ) (o : ColumnOrder) (l : List ℕ) (r : Field) (gi
       record { size = z; limits = tt; judged = λ xs q. sym (rw e) }
 
   module _ (x y : ℕ) (p : r ≡ At x y) (scan : PredScan) (preds : List ℕ) (s : Scanned v (take (y - x) (drop x l)) scan preds) where
-    pub step-formed : scan .formed ≡ arePreds (getD (split 32 l) (o .preds) [])
-    step-formed = s .formed ∙ ap arePreds (field-bytes l (o .preds) r given x y p)
+    pub step-formed : scan .formed ≡ isList (getD (split 32 l) (o .preds) [])
+    step-formed = s .formed ∙ ap isList (found-bytes 32 l (o .preds) r given x y p)
 
     pub step-right : (a : LineAnswer) → LineBy scan count v before (orderOf o) (split 32 l) a → StepJudged count v before (orderOf o) (split 32 l) a preds
-    step-right a j = j .by preds (rw (← field-bytes l (o .preds) r given x y p) s)
+    step-right a j = j .by preds (rw (← found-bytes 32 l (o .preds) r given x y p) s)
 
-pub ruleset step-kit = (step-missing, step-formed, step-right, field-ordered, field-inside)
+pub ruleset step-kit = (step-missing, step-formed, step-right, found-ordered, found-inside)

@@ -9,7 +9,8 @@ use Rattle.numbers.specs.Numbers.{numberOf}
 use Rattle.numbers.specs.declared.Number.the-variants.{Value}
 use Rattle.log_line.specs.Limits.{mostPreds}
 use Rattle.log_line.specs.Header.{Columns}
-use Rattle.log_line.specs.Step.{predsOf, arePreds, mislinked}
+use Rattle.numbers.specs.Listed.{listOf, isList}
+use Rattle.log_line.specs.Step.{mislinked}
 use Rattle.log_line.specs.Answers.{ValuesJudged, StepJudged}
 use Rattle.log_line.specs.declared.preds.PredScan.{PredScan}
 use Rattle.log_line.specs.declared.step.LineAnswer.{LineAnswer}
@@ -18,10 +19,10 @@ use Rattle.log_line.specs.declared.step.LineAnswer.{LineAnswer}
 -- them, which.
 pub record Scanned (v : ℕ) (f : List ℕ) (r : PredScan) (preds : List ℕ) : Type 0 where
   pub size : length preds ≡ mostPreds
-  pub formed : r .formed ≡ arePreds f
-  pub linked : r .formed ≡ true → r .mislinked ≡ mislinked v (predsOf f)
-  pub counted : r .formed ≡ true → r .count ≡ length (predsOf f)
-  pub stored : r .formed ≡ true → length (predsOf f) ≤ mostPreds → predsOf f ≡ take (length (predsOf f)) preds
+  pub formed : r .formed ≡ isList f
+  pub linked : r .formed ≡ true → r .mislinked ≡ mislinked v (listOf f)
+  pub counted : r .formed ≡ true → r .count ≡ length (listOf f)
+  pub stored : r .formed ≡ true → length (listOf f) ≤ mostPreds → listOf f ≡ take (length (listOf f)) preds
 
 -- At the end of so many numbers: step 0 has no links.
 abbrev pub scanEnd : ℕ → Bool → ℕ → PredScan
@@ -30,7 +31,7 @@ scanEnd v rising n = record { formed = true; mislinked = cond (eqb v 0) true (no
 -- The answer for the values of a line, whatever field gave this scan.
 pub record JudgedBy (scan : PredScan) (count v before board set : ℕ) (r : LineAnswer) : Type 0 where
   pub by : (f preds : List ℕ) → Scanned v f scan preds → scan .formed ≡ true
-      → ValuesJudged count v before (record { board = board; labels = set; preds = predsOf f }) r preds
+      → ValuesJudged count v before (record { board = board; labels = set; preds = listOf f }) r preds
 
 -- The answer for a line of four fields, three of them these numbers, whatever field gave this scan.
 pub record NumbersBy (scan : PredScan) (vertex board set count v before : ℕ) (r : LineAnswer) : Type 0 where

@@ -1,5 +1,4 @@
 // The lines of a log: the header's columns, and the values or the refusal of a line below it.
-pub mod columns;
 pub mod header;
 pub mod preds;
 pub mod refusals;

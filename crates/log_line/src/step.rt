@@ -6,20 +6,21 @@ ghost use lib.Dec.{ltb};
 ghost use lib.ListN.{length, getD};
 ghost use mathlib.Core.List.{[]};
 ghost use Rattle.text.specs.Split.{split};
-ghost use Rattle.text.specs.Fields.{Marked};
-ghost use Rattle.log_line.specs.Step.{arePreds, mislabelled};
+ghost use Rattle.fields.specs.Fields.{Marked};
+ghost use Rattle.numbers.specs.Listed.{isList};
+ghost use Rattle.log_line.specs.Step.{mislabelled};
 ghost use Rattle.log_line.specs.Scan.{JudgedBy, NumbersBy, LineBy};
 ghost use Rattle.log_line.specs.Answers.{orderOf, StepJudged};
-use crate::columns::number_at;
 use crate::header::ColumnOrder;
 use crate::preds::PredScan;
 use crate::preds::scan_preds;
 use crate::refusals::Refusal;
+use fields::Field;
+use fields::mark_fields;
+use fields::marked_count;
+use fields::marked_field;
 use numbers::Number;
-use text::fields::Field;
-use text::fields::mark_fields;
-use text::fields::marked_count;
-use text::fields::marked_field;
+use numbers::number_at;
 
 // What a line says of its step: board, label set, and how many links. The links stand beside it.
 pub struct StepValues {
@@ -124,7 +125,7 @@ fn read_scanned(
     v: u16,
     before: u16,
 ) -> LineAnswer
-    requires { ⌜ Marked 32 (now line) (now marks) × (scan .formed ≡ arePreds (getD (split 32 (now line)) (order .preds) [])) × (count ≤ 16) ⌝ }
+    requires { ⌜ Marked 32 (now line) (now marks) × (scan .formed ≡ isList (getD (split 32 (now line)) (order .preds) [])) × (count ≤ 16) ⌝ }
     ensures { λ r. ⌜ LineBy scan count v before (orderOf order) (split 32 (now (line .entry))) r ⌝ }
 {
     if marked_count(line, 32, marks) != 4 {

@@ -9,13 +9,14 @@ use lib.ListN.{getD, take}
 use Rattle.sets.specs.Sets.{setOf, membersFrom}
 use Rattle.text.specs.Split.{split}
 use Rattle.text.specs.Lines.{asLines, printable}
-use Rattle.text.specs.Fields.{sameBytes}
+use Rattle.fields.specs.Fields.{sameBytes}
 use Rattle.numbers.specs.Numbers.{digits, valueFrom, decimal}
 use Rattle.text.specs.Walk.{Outcome, accepted, faulty, walk}
 use Rattle.pattern_line.specs.Limits.{nextAt}
 use Rattle.lists.specs.Tables.{table}
 use Rattle.pattern_line.specs.Header.{sameFields, nameBytes, areNames, among, distinct}
-use Rattle.pattern_line.specs.Row.{Row, areNumbers, followsLast, breaksTurns, statesOf, allWithin, allSingle}
+use Rattle.numbers.specs.Listed.{areNumbers}
+use Rattle.pattern_line.specs.Row.{Row, followsLast, breaksTurns, statesOf, allWithin, allSingle}
 use Rattle.pattern.specs.Format.{Known, patternText}
 use Rattle.pattern.specs.Buffer.{beadCount, ruleOfBead, acceptingOf, nextOf, bufferOf}
 

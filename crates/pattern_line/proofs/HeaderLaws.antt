@@ -10,7 +10,7 @@ use lib.Dec.{leb}
 use lib.ListN.{length, getD, take, drop, drop-of-length-le, length-drop}
 use lib.Seq.{drop-cons}
 use native.Mathlib.Numerals.{add-one}
-use Rattle.text.specs.Fields.{sameBytes}
+use Rattle.fields.specs.Fields.{sameBytes}
 use Rattle.pattern_line.specs.Line.{fieldsOf, fieldAt}
 use Rattle.pattern_line.specs.Header.{columns, sameFields, nameByte, nameBytes, isName, areNames, among, distinct, isHeader, labelCount}
 use Rattle.pattern_line.specs.Answers.{Said, refusal, headerJudged}

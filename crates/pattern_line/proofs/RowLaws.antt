@@ -8,12 +8,14 @@ use native.Mathlib.Omega.{arith}
 use borrow.Author.Tests.{eq-eqb, ne-eqb, lt-ltb, le-ltb}
 use lib.Dec.{eqb, ltb}
 use lib.ListN.{length, getD, drop, set}
-use Rattle.text.specs.Fields.{sameBytes}
-use Rattle.numbers.specs.Numbers.{numberOf, isValue, valueIs, isNumber, valueOf}
+use Rattle.fields.specs.Fields.{sameBytes}
+use Rattle.numbers.specs.Numbers.{numberOf, isNumber, valueOf}
+use Rattle.numbers.proofs.ValueLaws.{not-number, is-number, value-some}
 use Rattle.numbers.specs.declared.Number.{Number}
 use Rattle.numbers.specs.declared.Number.the-variants.{Value, Malformed}
 use Rattle.pattern_line.specs.Line.{fieldsOf, fieldAt}
-use Rattle.pattern_line.specs.Row.{Row, ruleOf, rowOf, areNumbers, malformed, followsLast, disordered, breaksTurns, misruled}
+use Rattle.numbers.specs.Listed.{areNumbers}
+use Rattle.pattern_line.specs.Row.{Row, ruleOf, rowOf, malformed, followsLast, disordered, breaksTurns, misruled}
 use Rattle.pattern_line.specs.Answers.{Said, refusal, lineSaid, orderJudged, rowJudged, nextSets, rowFor, rowsAt}
 use Rattle.pattern_line.specs.declared.row.LineValues.{LineValues}
 use Rattle.pattern_line.specs.declared.row.Last.{Last}
@@ -38,22 +40,6 @@ module _ (line : List ℕ) (t : Bool) (g : t ≡ sameBytes (fieldAt line 1) (83 
 pub ruleset rule-kit = (rule-some, rule-all, rule-none)
 
 -- ---- numbers
-
-module _ (f : List ℕ) (n : Number) (g : n ≡ numberOf f) where
-  pub no-number : n ≡ Malformed → false ≡ isNumber f
-  no-number p = ap isValue (sym p ∙ g)
-
-  pub no-value : n ≡ Malformed → 0 ≡ valueOf f
-  no-value p = ap valueIs (sym p ∙ g)
-
-  module _ (v : ℕ) (p : n ≡ Value v) where
-    pub a-number : true ≡ isNumber f
-    a-number = ap isValue (sym p ∙ g)
-
-    pub its-value : v ≡ valueOf f
-    its-value = ap valueIs (sym p ∙ g)
-
-pub ruleset number-kit = (no-number, no-value, a-number, its-value)
 
 areNumbers-none : areNumbers [] ≡ true
 unfolding areNumbers
@@ -236,12 +222,12 @@ module _ (line : List ℕ) (labels : ℕ) (last : Last) (n : ℕ) (count : n ≡
     module _ (e : not t ≡ false) (x : Number) (p : x ≡ numberOf (fieldAt line 0)) where
       pub bead-malformed : x ≡ Malformed → refusal 11 ≡ rowJudged labels (rowsAt last) (fieldsOf line)
       unfolding rowJudged
-      bead-malformed m = sym (rw (counted, sym (no-number (fieldAt line 0) x p m)) refl)
+      bead-malformed m = sym (rw (counted, sym (not-number (fieldAt line 0) x p m)) refl)
 
       module _ (bead : ℕ) (is-bead : x ≡ Value bead) (y : Number) (q : y ≡ numberOf (fieldAt line 2)) where
         pub state-malformed : y ≡ Malformed → refusal 11 ≡ rowJudged labels (rowsAt last) (fieldsOf line)
         unfolding rowJudged
-        state-malformed m = sym (rw (counted, sym (a-number (fieldAt line 0) x p bead is-bead), sym (no-number (fieldAt line 2) y q m)) refl)
+        state-malformed m = sym (rw (counted, sym (is-number (fieldAt line 0) x p bead is-bead), sym (not-number (fieldAt line 2) y q m)) refl)
 
         module _ (state : ℕ) (is-state : y ≡ Value state) (z : Number) (r : z ≡ numberOf (fieldAt line 3)) where
           pub final-malformed : z ≡ Malformed → refusal 11 ≡ rowJudged labels (rowsAt last) (fieldsOf line)
@@ -249,9 +235,9 @@ module _ (line : List ℕ) (labels : ℕ) (last : Last) (n : ℕ) (count : n ≡
           final-malformed m =
               sym (rw (
                 counted,
-                sym (a-number (fieldAt line 0) x p bead is-bead),
-                sym (a-number (fieldAt line 2) y q state is-state),
-                sym (no-number (fieldAt line 3) z r m),
+                sym (is-number (fieldAt line 0) x p bead is-bead),
+                sym (is-number (fieldAt line 2) y q state is-state),
+                sym (not-number (fieldAt line 3) z r m),
               ) refl)
 
           pub row-right : (accepting : ℕ) → z ≡ Value accepting → (rule : ℕ) → rule ≡ ruleOf (fieldAt line 1) → (answer : LineAnswer)
@@ -260,13 +246,13 @@ module _ (line : List ℕ) (labels : ℕ) (last : Last) (n : ℕ) (count : n ≡
           unfolding rowJudged
           row-right accepting is-final rule u answer w =
               w ∙ order-values (rowsAt last) (rowFor (record { bead = bead; rule = rule; state = state; accepting = accepting })) (rowOf (fieldsOf line))
-              (its-value (fieldAt line 0) x p bead is-bead) u (its-value (fieldAt line 2) y q state is-state)
-              (its-value (fieldAt line 3) z r accepting is-final)
+              (value-some (fieldAt line 0) x p bead is-bead) u (value-some (fieldAt line 2) y q state is-state)
+              (value-some (fieldAt line 3) z r accepting is-final)
               ∙ sym (rw (
                 counted,
-                sym (a-number (fieldAt line 0) x p bead is-bead),
-                sym (a-number (fieldAt line 2) y q state is-state),
-                sym (a-number (fieldAt line 3) z r accepting is-final),
+                sym (is-number (fieldAt line 0) x p bead is-bead),
+                sym (is-number (fieldAt line 2) y q state is-state),
+                sym (is-number (fieldAt line 3) z r accepting is-final),
                 sym g ∙ undenied t e,
               ) refl)
 

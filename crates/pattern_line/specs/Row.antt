@@ -5,8 +5,9 @@ use mathlib.Core.List.{List, [], _∷_, map}
 use lib.Dec.{eqb, ltb}
 use lib.ListN.{length, getD, drop}
 use Rattle.sets.specs.Sets.{within, single}
-use Rattle.text.specs.Fields.{sameBytes}
+use Rattle.fields.specs.Fields.{sameBytes}
 use Rattle.numbers.specs.Numbers.{isNumber, valueOf}
+use Rattle.numbers.specs.Listed.{areNumbers}
 use Rattle.pattern_line.specs.Limits.{mostBeads, mostStates}
 
 -- What a line says of a state of a bead: bead, rule (1 SOME, 2 ALL), state, final, and the next set of each label.
@@ -29,10 +30,6 @@ rowOf fs = record {
   accepting = valueOf (getD fs 3 []);
   next = map valueOf (drop 4 fs);
 }
-
-unfoldable pub areNumbers : List (List ℕ) → Bool
-areNumbers [] = true
-areNumbers (p ∷ ps) = isNumber p && areNumbers ps
 
 -- 11, below the header: a wrong number of fields, or a field other than the rule that isn't a number.
 abbrev pub malformed : ℕ → List (List ℕ) → Bool

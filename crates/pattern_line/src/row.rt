@@ -1,15 +1,16 @@
 // A line below the header.
 ghost use mathlib.Core.Path.{_≡_};
 ghost use lib.ListN.{length, drop};
-ghost use Rattle.text.specs.Fields.{Marked};
+ghost use Rattle.fields.specs.Fields.{Marked};
 ghost use Rattle.numbers.specs.Numbers.{isNumber, valueOf};
 ghost use Rattle.pattern_line.specs.Line.{fieldsOf, fieldAt};
-ghost use Rattle.pattern_line.specs.Row.{ruleOf, areNumbers, followsLast, breaksTurns};
+ghost use Rattle.numbers.specs.Listed.{areNumbers};
+ghost use Rattle.pattern_line.specs.Row.{ruleOf, followsLast, breaksTurns};
 ghost use Rattle.pattern_line.specs.Answers.{lineSaid, orderJudged, rowJudged, nextSets, rowFor, rowsAt};
 use crate::refusals::Refusal;
-use crate::words::number_at;
 use crate::words::word_at;
 use numbers::Number;
+use numbers::number_at;
 
 // A line's values but for its next sets: bead, rule (1 SOME, 2 ALL, 0 neither), state, final.
 pub struct LineValues {
@@ -61,7 +62,7 @@ pub fn are_numbers(line: &[u8], marks: &[usize]) -> bool
     requires { ⌜ Marked 32 (now line) (now marks) ⌝ }
     ensures { λ r. ⌜ r ≡ areNumbers (drop 4 (fieldsOf (now (line .entry)))) ⌝ }
 {
-    let count = text::fields::marked_count(line, 32, marks);
+    let count = fields::marked_count(line, 32, marks);
     let mut i = 4;
     while i < count {
         if !is_number_at(line, marks, i) {
@@ -166,7 +167,7 @@ fn read_marked(
     ensures { λ _. ⌜ now (next .exit) ≡ nextSets (fieldsOf (now (line .entry))) ⌝ }
 {
     read_next(line, marks, next);
-    if text::fields::marked_count(line, 32, marks) != 4 + labels as usize {
+    if fields::marked_count(line, 32, marks) != 4 + labels as usize {
         return LineAnswer::Refused(Refusal::Malformed);
     }
     if !are_numbers(line, marks) {
@@ -200,6 +201,6 @@ pub fn read_row(line: &[u8], labels: u16, last: Last, next: &mut [u16]) -> LineA
     ensures { λ _. ⌜ now (next .exit) ≡ nextSets (fieldsOf (now (line .entry))) ⌝ }
 {
     let mut marks = [0usize; 24];
-    text::fields::mark_fields(line, 32, &mut marks);
+    fields::mark_fields(line, 32, &mut marks);
     read_marked(line, &marks, labels, last, next)
 }

@@ -1,6 +1,4 @@
 pub mod SplitLaws
-pub mod FieldLaws
-pub mod PartLaws
-pub mod MarkLaws
+pub mod Spelled
 pub mod LineLaws
 pub mod WalkLaws

@@ -1,4 +1,3 @@
 pub mod Split
-pub mod Fields
 pub mod Lines
 pub mod Walk

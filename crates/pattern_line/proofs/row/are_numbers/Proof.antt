@@ -1,5 +1,5 @@
 -- The loop keeps: all fields after the first four are numbers if those left are.
-use Rattle.pattern_line.specs.Row.{areNumbers}
+use Rattle.numbers.specs.Listed.{areNumbers}
 use Rattle.pattern_line.specs.Line.{fieldsOf, fieldAt}
 use lib.ListN.{length, drop}
 use mathlib.Core.Path.{_≡_}
