@@ -22,7 +22,7 @@ use Rattle.log_line.specs.Header.{placeOf}
 use Rattle.numbers.specs.Listed.{areNumbers}
 use Rattle.log_line.specs.Step.{risingBelow, linkCount}
 use Rattle.log_line.specs.Format.{Known as LogKnown, logText}
-use Rattle.log.specs.Buffer.{begins, links, bufferOf as logBuffer}
+use Rattle.log_store.specs.Buffer.{begins, links, bufferOf as logBuffer}
 use Rattle.pattern_buffer.specs.Meaning.{patternOf}
 use Rattle.log_buffer.specs.Meaning.{logOf}
 use Rattle.necklace.specs.Compute.{row, prefixes, pivots, before, seek, holds?, some?, all?, backward, pass}

@@ -29,7 +29,7 @@ use Rattle.log_line.specs.Header.{placeOf}
 use Rattle.numbers.specs.Listed.{areNumbers}
 use Rattle.log_line.specs.Step.{risingBelow, linkCount}
 use Rattle.log_line.specs.Format.{Known as LogKnown, logText}
-use Rattle.log.specs.Buffer.{begins, links, bufferOf as logBuffer}
+use Rattle.log_store.specs.Buffer.{begins, links, bufferOf as logBuffer}
 use Rattle.log_buffer.specs.Meaning.{at, stepsIn, logOf}
 use Rattle.log_buffer.proofs.LogBuffers.{given-passes}
 use Rattle.log_buffer.proofs.Meaning.{size-is, log-well-formed}

@@ -1,3 +1,2 @@
 pub mod PredLaws
 pub mod HeaderLaws
-pub mod StepLaws

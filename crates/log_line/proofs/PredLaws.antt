@@ -1,6 +1,6 @@
 -- The field `preds`, part by part: all parts numbers, rising, stored.
 -- Assumes nothing.
-use mathlib.Core.Path.{_≡_, refl, sym, ap, ap₂, _∙_}
+use mathlib.Core.Path.{_≡_, refl, sym, ap, _∙_}
 use mathlib.Core.Bool.{Bool, true, false, not, cond, _&&_, _||_}
 use mathlib.Core.List.{List, [], _∷_, _++_, map, append-nil, append-assoc}
 use Prim.Native.Nat.{ℕ, _+_, _-_, _≤_, _<_}
@@ -8,7 +8,7 @@ use native.Mathlib.Omega.{arith}
 use native.Mathlib.Numerals.{add-one}
 use borrow.Author.Tests.{le-leb, lt-leb, lt-ltb, le-ltb, eq-eqb, ne-eqb, ltb-true, ltb-false}
 use lib.Dec.{leb, ltb, eqb}
-use lib.ListN.{length, take, drop, set, length-map, length-append, length-set}
+use lib.ListN.{length, take, drop, set, length-map, length-append}
 use lib.Seq.{take-suc-set, length-take-le, set-out}
 use Rattle.text.specs.Split.{split, firstPart}
 use Rattle.numbers.specs.Numbers.{numberOf, isNumber, valueOf}
