@@ -11,7 +11,7 @@ use Rattle.lists.specs.Tables.{table}
 use Rattle.lists.proofs.Tables.{table-is}
 use Rattle.text.specs.Split.{split}
 use Rattle.text.specs.Lines.{asLines, printable}
-use Rattle.text.specs.Fields.{sameBytes}
+use Rattle.fields.specs.Fields.{sameBytes}
 use Rattle.numbers.specs.Numbers.{digits, valueFrom, decimal}
 use Rattle.text.specs.Walk.{Outcome, accepted, faulty, walk}
 use Rattle.pattern_header.specs.Header.{sameFields, nameBytes, areNames, among, distinct}
@@ -21,9 +21,10 @@ use Rattle.pattern_rows.specs.Next.{statesOf, allWithin, allSingle}
 use Rattle.pattern_rows.specs.Format.{Known as PatternKnown, patternText}
 use Rattle.pattern_rows.specs.Buffer.{beadCount, ruleOfBead, acceptingOf, nextOf, bufferOf as patternBuffer}
 use Rattle.log_line.specs.Header.{placeOf}
-use Rattle.log_line.specs.Step.{areNumbers, risingBelow, linkCount}
+use Rattle.numbers.specs.Listed.{areNumbers}
+use Rattle.log_line.specs.Step.{risingBelow, linkCount}
 use Rattle.log_line.specs.Format.{Known as LogKnown, logText}
-use Rattle.log.specs.Buffer.{begins, links, bufferOf as logBuffer}
+use Rattle.log_store.specs.Buffer.{begins, links, bufferOf as logBuffer}
 use Rattle.pattern_buffer.specs.Meaning.{patternOf}
 use Rattle.log_buffer.specs.Meaning.{logOf}
 use Rattle.necklace.specs.Compute.{row, prefixes, pivots, before, seek, holds?, some?, all?, backward, pass}
@@ -194,7 +195,7 @@ pub rows-same : (cs : List Case) → map (λ c. rowOfTexts (c .pattern) (c .log)
 rows-same cs = ap (λ (f : Case → List ℕ). map f cs) (fun-ext (λ c. same-row (patternText (c .pattern)) (c .log) (c .step)))
 
 computed : map (λ c. frontRowBy (patternText (c .pattern)) (c .log) (c .step)) marked ≡ map (λ c. c .numbers) marked
-unfolding marked listing-pattern all-clean some-clean some-vented listing-log start-alone bare-step labels-five walk asLines split printable sameBytes digits valueFrom decimal sameFields nameBytes areNames among distinct areNumbersIn followsLast breaksTurns statesOf allWithin allSingle membersFrom placeOf areNumbers risingBelow linkCount begins links tableUp frontBuffer beadCount ruleOfBead acceptingOf nextOf setOf someBelow logOf patternOf row prefixes pivots before seek holds? some? all? backward pass
+unfolding marked listing-pattern all-clean some-clean some-vented listing-log start-alone bare-step labels-five walk asLines split printable sameBytes digits valueFrom decimal sameFields nameBytes areNames among distinct followsLast breaksTurns statesOf allWithin allSingle membersFrom placeOf areNumbers risingBelow linkCount begins links tableUp frontBuffer beadCount ruleOfBead acceptingOf nextOf setOf someBelow logOf patternOf row prefixes pivots before seek holds? some? all? backward pass
 computed = refl
 
 -- Each case marked P has its ten numbers.

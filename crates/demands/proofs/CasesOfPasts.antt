@@ -14,7 +14,7 @@ use Rattle.sets.proofs.Truth.{true-yes}
 use Rattle.lists.specs.Tables.{table}
 use Rattle.text.specs.Split.{split}
 use Rattle.text.specs.Lines.{asLines, printable}
-use Rattle.text.specs.Fields.{sameBytes}
+use Rattle.fields.specs.Fields.{sameBytes}
 use Rattle.numbers.specs.Numbers.{digits, valueFrom, decimal}
 use Rattle.text.specs.Walk.{Outcome, accepted, faulty, walk}
 use Rattle.pattern_line.specs.Limits.{ruleAt, bufferLength as patternLength}
@@ -28,9 +28,10 @@ use Rattle.pattern_buffer.specs.Meaning.{beadsIn, patternOf}
 use Rattle.pattern_buffer.proofs.Buffers.{length-buffer}
 use Rattle.log_line.specs.Limits.{boardAt, bufferLength as logLength}
 use Rattle.log_line.specs.Header.{placeOf}
-use Rattle.log_line.specs.Step.{areNumbers, risingBelow, linkCount}
+use Rattle.numbers.specs.Listed.{areNumbers}
+use Rattle.log_line.specs.Step.{risingBelow, linkCount}
 use Rattle.log_line.specs.Format.{Known as LogKnown, logText}
-use Rattle.log.specs.Buffer.{begins, links, bufferOf as logBuffer}
+use Rattle.log_store.specs.Buffer.{begins, links, bufferOf as logBuffer}
 use Rattle.log_buffer.specs.Meaning.{at, stepsIn, logOf}
 use Rattle.log_buffer.proofs.LogBuffers.{given-passes}
 use Rattle.log_buffer.proofs.Meaning.{size-is, log-well-formed}
@@ -119,11 +120,11 @@ unfolding listing-log shorter-log walk asLines split printable sameBytes digits 
 other-boards = refl
 
 three : (labelsBy (patternText listing-pattern) ≡ 3) × (labelsBy (patternText some-clean) ≡ 3)
-unfolding listing-pattern some-clean walk asLines split printable sameBytes digits valueFrom decimal sameFields nameBytes areNames among distinct areNumbersIn followsLast breaksTurns statesOf allWithin allSingle beadCount membersFrom
+unfolding listing-pattern some-clean walk asLines split printable sameBytes digits valueFrom decimal sameFields nameBytes areNames among distinct followsLast breaksTurns statesOf allWithin allSingle beadCount membersFrom
 three = (refl, refl)
 
 some-one : (beadsIn (patternFrom some-clean) ≡ 1) × (at (patternFrom some-clean) (ruleAt 0) ≡ 1)
-unfolding some-clean walk asLines split printable sameBytes digits valueFrom decimal sameFields nameBytes areNames among distinct areNumbersIn followsLast breaksTurns statesOf allWithin allSingle beadCount membersFrom table ruleOfBead
+unfolding some-clean walk asLines split printable sameBytes digits valueFrom decimal sameFields nameBytes areNames among distinct followsLast breaksTurns statesOf allWithin allSingle beadCount membersFrom table ruleOfBead
 some-one = (refl, refl)
 
 alike-computed : alike? (logOf (logFrom listing-log)) (logOf (logFrom shorter-log)) 5 ≡ true
@@ -147,7 +148,7 @@ unfolding shown
 shown-count = refl
 
 front-shown : map (λ c. frontRowBy (patternText (c .pattern)) (c .log) (c .step)) shown ≡ map (λ c. c .numbers) shown
-unfolding shown listing-pattern some-clean listing-log shorter-log more-log walk asLines split printable sameBytes digits valueFrom decimal placeOf areNumbers risingBelow linkCount begins links sameFields nameBytes areNames among distinct areNumbersIn followsLast breaksTurns statesOf allWithin allSingle beadCount membersFrom tableUp frontBuffer ruleOfBead acceptingOf nextOf setOf someBelow logOf patternOf row prefixes pivots before seek holds? some? all? backward pass
+unfolding shown listing-pattern some-clean listing-log shorter-log more-log walk asLines split printable sameBytes digits valueFrom decimal placeOf areNumbers risingBelow linkCount begins links sameFields nameBytes areNames among distinct followsLast breaksTurns statesOf allWithin allSingle beadCount membersFrom tableUp frontBuffer ruleOfBead acceptingOf nextOf setOf someBelow logOf patternOf row prefixes pivots before seek holds? some? all? backward pass
 front-shown = refl
 
 pub shown-rows : map (λ c. rowOfTexts (c .pattern) (c .log) (c .step)) shown ≡ map (λ c. c .numbers) shown

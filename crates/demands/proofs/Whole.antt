@@ -14,7 +14,7 @@ use Rattle.log_line.specs.Limits.{bufferLength as logLength}
 use Rattle.pattern_rows.specs.Format.{Known as PatternKnown, patternText}
 use Rattle.pattern_rows.specs.Buffer.{bufferOf as patternBuffer}
 use Rattle.log_line.specs.Format.{Known as LogKnown, logText}
-use Rattle.log.specs.Buffer.{bufferOf as logBuffer}
+use Rattle.log_store.specs.Buffer.{bufferOf as logBuffer}
 use Rattle.pattern_buffer.specs.Meaning.{labelsIn, patternOf}
 use Rattle.pattern_buffer.specs.Valid.{isPattern}
 use Rattle.pattern_buffer.proofs.PatternBuffers.{pattern-buffers}

@@ -5,7 +5,7 @@ use mathlib.Core.List.{List}
 use native.Mathlib.Omega.{arith}
 use lib.ListN.{length, getD, take, List·getD-eq-default}
 use Rattle.answer.specs.declared.Answer.{Answer}
-use Rattle.log.specs.Buffer.{logAnswer, logAfter}
+use Rattle.log.specs.Answer.{logAnswer, logAfter}
 use Rattle.judging.specs.Judge.{judgeAnswer, resultAfter, workAfter}
 use Rattle.judge_files.specs.Files.{PatternRead, LogRead, LogJudged, log-refused, log-judged, Run, pattern-refused, pattern-read}
 

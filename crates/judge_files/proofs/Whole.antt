@@ -15,7 +15,7 @@ use Rattle.text.specs.Walk.{badSize}
 use Rattle.pattern_line.specs.Limits.{mostText as patternMost, bufferLength as patternLength}
 use Rattle.log_line.specs.Limits.{mostText as logMost, bufferLength as logLength}
 use Rattle.pattern.specs.Answer.{patternAnswer}
-use Rattle.log.specs.Buffer.{badCount, logAnswer}
+use Rattle.log.specs.Answer.{badCount, logAnswer}
 use Rattle.judge_files.specs.Files.{PatternRead, LogRead}
 
 or-true : (b : Bool) → (b || true) ≡ true

@@ -9,7 +9,7 @@ use Rattle.answer.specs.declared.Answer.{Answer}
 use Rattle.pattern_line.specs.Limits.{mostText as patternMost}
 use Rattle.log_line.specs.Limits.{mostText as logMost}
 use Rattle.pattern.specs.Answer.{patternAnswer, patternAfter}
-use Rattle.log.specs.Buffer.{logAnswer, logAfter}
+use Rattle.log.specs.Answer.{logAnswer, logAfter}
 use Rattle.judging.specs.Judge.{judgeAnswer, resultAfter, workAfter}
 
 -- The pattern's text was read: r is answered, and pattern′ is what the pattern buffer holds then.

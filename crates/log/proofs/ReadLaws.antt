@@ -20,16 +20,19 @@ use Rattle.text.specs.declared.lines.Line.the-variants.{Whole, Broken}
 use Rattle.text.proofs.WalkLaws.{text-end, text-broken, text-refused, text-passed, lent-whole, walk-numbers}
 use Rattle.log_line.specs.Step.{Step, linkCount}
 use Rattle.log_line.specs.Format.{Known, judgeStep, judgeLine, conclude}
-use Rattle.log_line.specs.Answers.{refusalNumber, orderOf, InLimits, Limited, StepJudged}
-use Rattle.log.specs.Stores.{StepStored, knowing, Added, LineAdded, stepsRead}
-use Rattle.log.specs.Buffer.{begins, links, bufferOf, answerOf, filledBy}
+use Rattle.log_line.specs.Answers.{refusalNumber, orderOf}
+use Rattle.log_step.specs.Answers.{InLimits, Limited, StepJudged}
+use Rattle.log.specs.Reading.{knowing, Added, LineAdded, stepsRead}
+use Rattle.log_store.specs.Stores.{StepStored}
+use Rattle.log_store.specs.Buffer.{begins, links, bufferOf}
+use Rattle.log.specs.Filled.{answerOf, filledBy}
 use Rattle.log_line.specs.declared.refusals.Refusal.{Refusal}
 use Rattle.log_line.specs.declared.refusals.Refusal.the-variants.{Size, Malformed, Header, Number, Links, Labels, Limit}
 use Rattle.log_line.specs.declared.header.ColumnOrder.{ColumnOrder}
-use Rattle.log_line.specs.declared.step.StepValues.{StepValues}
-use Rattle.log_line.specs.declared.step.LineAnswer.{LineAnswer}
-use Rattle.log_line.specs.declared.step.LineAnswer.the-variants.{Values, Refused}
-use Rattle.log.proofs.BufferLaws.{count-more, count-end}
+use Rattle.log_step.specs.declared.StepValues.{StepValues}
+use Rattle.log_step.specs.declared.LineAnswer.{LineAnswer}
+use Rattle.log_step.specs.declared.LineAnswer.the-variants.{Values, Refused}
+use Rattle.log_store.proofs.BufferLaws.{count-more, count-end}
 
 -- Before the line at the place `at`, v steps with so many links are read, and they are in the buffer.
 pub record Reading (text : List ℕ) (start count : ℕ) (o : ColumnOrder) (at v edges : ℕ) (buffer : List ℕ) : Type 0 where

@@ -21,8 +21,9 @@ use Rattle.text.proofs.WalkLaws.{size-empty, size-over, size-right, text-broken
 use Rattle.log_line.specs.Header.{columnsOf}
 use Rattle.log_line.specs.Format.{Known, judgeHeader, judgeLine, logFormat, conclude, logText}
 use Rattle.log_line.specs.Answers.{refusalNumber, headerNumber, headerValues, orderOf, headerSays}
-use Rattle.log.specs.Buffer.{answerOf, filledBy, logAnswer, logAfter}
-use Rattle.log.specs.Stores.{knowing, stepsRead}
+use Rattle.log.specs.Answer.{logAnswer, logAfter}
+use Rattle.log.specs.Filled.{answerOf, filledBy}
+use Rattle.log.specs.Reading.{knowing, stepsRead}
 use Rattle.log_line.specs.declared.refusals.Refusal.{Refusal}
 use Rattle.log_line.specs.declared.header.ColumnOrder.{ColumnOrder}
 use Rattle.log_line.specs.declared.header.HeaderAnswer.{HeaderAnswer}

@@ -1,3 +1,3 @@
-pub mod Buffer
-pub mod Stores
-pub mod Accepted
+pub mod Filled
+pub mod Reading
+pub mod Answer

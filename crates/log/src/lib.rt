@@ -3,7 +3,8 @@ ghost use mathlib.Core.Path.{_≡_};
 ghost use Prim.Native.Nat.{_≤_};
 ghost use lib.ListN.{length};
 ghost use Rattle.log_line.specs.Format.{logText};
-ghost use Rattle.log.specs.Buffer.{answerOf, filledBy, logAnswer, logAfter};
+ghost use Rattle.log.specs.Answer.{logAnswer, logAfter};
+ghost use Rattle.log.specs.Filled.{answerOf, filledBy};
 use crate::steps::read_steps;
 use answer::Answer;
 use log_line::header::HeaderAnswer;
@@ -13,11 +14,10 @@ use log_line::refusals::number_of;
 use text::lines::Line;
 use text::lines::read_line;
 
-pub mod steps;
-pub mod store;
+mod steps;
 
 // The size, the header, and the lines below it.
-pub fn read_text(text: &[u8], labels: u16, log: &mut [u16]) -> Answer
+fn read_text(text: &[u8], labels: u16, log: &mut [u16]) -> Answer
     requires { ⌜ (labels ≤ 16) × (7170 ≤ length (now log)) ⌝ }
     ensures { λ r. ⌜ r ≡ answerOf (logText labels (now (text .entry))) ⌝ }
     ensures { λ _. ⌜ now (log .exit) ≡ filledBy (logText labels (now (text .entry))) (now (log .entry)) ⌝ }

@@ -4,20 +4,20 @@ ghost use Prim.Native.Nat.{_≤_};
 ghost use lib.ListN.{length, drop};
 ghost use Rattle.text.specs.Split.{split};
 ghost use Rattle.log_line.specs.Answers.{orderOf};
-ghost use Rattle.log.specs.Buffer.{answerOf, filledBy};
-ghost use Rattle.log.specs.Stores.{LineAdded, stepsRead};
-use crate::store::store_step;
+ghost use Rattle.log.specs.Filled.{answerOf, filledBy};
+ghost use Rattle.log.specs.Reading.{LineAdded, stepsRead};
 use answer::Answer;
 use log_line::header::ColumnOrder;
 use log_line::refusals::Refusal;
 use log_line::refusals::number_of;
-use log_line::step::LineAnswer;
-use log_line::step::read_step;
+use log_step::LineAnswer;
+use log_step::read_step;
+use log_store::store_step;
 use text::lines::Line;
 use text::lines::read_line;
 
 // Reads the line of step v, after steps with so many links, and adds the step to their buffer.
-pub fn add_line(
+fn add_line(
     line: &[u8],
     order: ColumnOrder,
     labels: u16,

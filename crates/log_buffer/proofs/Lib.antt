@@ -3,7 +3,6 @@ pub mod Sound
 pub mod Meaning
 pub mod StepLaws
 pub mod StepPlaces
-pub mod SpelledLaws
 pub mod LogText
 pub mod LogBuffers
 pub mod OnlyFirst

@@ -12,7 +12,7 @@ use Rattle.text.specs.Walk.{accepted}
 use Rattle.log_line.specs.Limits.{mostLabels, bufferLength}
 use Rattle.log_line.specs.Step.{Step}
 use Rattle.log_line.specs.Format.{Known, logText}
-use Rattle.log.specs.Buffer.{bufferOf}
+use Rattle.log_store.specs.Buffer.{bufferOf}
 use Rattle.log_buffer.specs.Meaning.{logOf}
 use Rattle.log_buffer.specs.Given.{GivenLog}
 use Rattle.log_buffer.specs.Valid.{isLog}

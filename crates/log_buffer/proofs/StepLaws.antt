@@ -14,9 +14,9 @@ use Rattle.text.specs.Walk.{accepted}
 use Rattle.log_line.specs.Limits.{mostBoard, mostSteps, mostLinks, mostPreds}
 use Rattle.log_line.specs.Step.{Step, risingBelow, mislinked, mislabelled, linkCount}
 use Rattle.log_line.specs.Format.{Known, logText}
-use Rattle.log_line.proofs.StepLaws.{in-limits}
-use Rattle.log.specs.Accepted.{StepFits, StepsFit, none, more}
-use Rattle.log.proofs.AcceptedLaws.{accepted-fit}
+use Rattle.log_step.proofs.StepLaws.{in-limits}
+use Rattle.log_store.specs.Accepted.{StepFits, StepsFit, none, more}
+use Rattle.log_store.proofs.AcceptedLaws.{accepted-fit}
 
 -- ---- links
 

@@ -13,11 +13,11 @@ use lib.Seq.{take-length, take-append-le, take-all, getD-append-seam, getD-appen
 use Rattle.sets.specs.Sets.{members}
 use Rattle.log_line.specs.Limits.{mostLabels, mostSteps, mostLinks, labelsAt, boardAt, beginAt, linkAt, bufferLength}
 use Rattle.log_line.specs.Step.{Step, linkCount}
-use Rattle.log.specs.Buffer.{begins, links, bufferOf}
-use Rattle.log.specs.Accepted.{StepsFit, none, more}
-use Rattle.log.proofs.AcceptedLaws.{few-steps, few-links}
-use Rattle.log.proofs.BufferLaws.{count-end, count-more, links-end, links-more, length-begins, length-links}
-use Rattle.log.proofs.BufferFacts.{Holds, buffer-holds, holds-buffer, begins-at}
+use Rattle.log_store.specs.Buffer.{begins, links, bufferOf}
+use Rattle.log_store.specs.Accepted.{StepsFit, none, more}
+use Rattle.log_store.proofs.AcceptedLaws.{few-steps, few-links}
+use Rattle.log_store.proofs.BufferLaws.{count-end, count-more, links-end, links-more, length-begins, length-links}
+use Rattle.log_store.proofs.BufferFacts.{Holds, buffer-holds, holds-buffer, begins-at}
 use Rattle.log_buffer.specs.Meaning.{at, stepsIn, linksInto, logOf}
 use Rattle.log_buffer.specs.Spelled.{stepIn, stepsUpTo, stepsOf}
 use Rattle.log_buffer.proofs.Sound.{Sound, begin, width, begin-next, begin-inside}

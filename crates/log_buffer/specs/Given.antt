@@ -6,7 +6,7 @@ use lib.ListN.{length, take}
 use Rattle.text.specs.Walk.{accepted}
 use Rattle.log_line.specs.Limits.{bufferLength}
 use Rattle.log_line.specs.Format.{Known, logText}
-use Rattle.log.specs.Buffer.{bufferOf}
+use Rattle.log_store.specs.Buffer.{bufferOf}
 
 pub record GivenLog (count : ℕ) (buffer : List ℕ) : Type 0 where
   pub long : bufferLength ≤ length buffer

@@ -1,8 +1,9 @@
 -- A text that gives a log buffer: the header in the order vertex, board, labels, preds, then a line for each step.
 use Prim.Native.Nat.{ℕ, zero, suc}
-use mathlib.Core.List.{List, [], _∷_, _++_, map}
-use Rattle.text.specs.Split.{joined, lineFrom}
+use mathlib.Core.List.{List, [], _∷_, _++_}
+use Rattle.text.specs.Split.{lineFrom}
 use Rattle.numbers.specs.Numbers.{spell}
+use Rattle.numbers.specs.Listed.{listWord}
 use Rattle.log_line.specs.Limits.{labelsAt, boardAt}
 use Rattle.log_line.specs.Header.{vertexName, boardName, labelsName, predsName}
 use Rattle.log_line.specs.Step.{Step}
@@ -19,13 +20,8 @@ stepsUpTo b (suc v) = stepsUpTo b v ++ (stepIn b v ∷ [])
 abbrev pub stepsOf : List ℕ → List Step
 stepsOf b = stepsUpTo b (stepsIn b)
 
--- `-`, or the numbers joined by commas.
-abbrev pub predsWord : List ℕ → List ℕ
-predsWord [] = 45 ∷ []
-predsWord (u ∷ us) = joined 44 (map spell (u ∷ us))
-
 abbrev pub fieldsOf : ℕ → Step → List (List ℕ)
-fieldsOf v x = spell v ∷ (spell (x .board) ∷ (spell (x .labels) ∷ (predsWord (x .preds) ∷ [])))
+fieldsOf v x = spell v ∷ (spell (x .board) ∷ (spell (x .labels) ∷ (listWord (x .preds) ∷ [])))
 
 -- The lines of the steps from number v on.
 unfoldable pub stepLines : ℕ → List Step → List ℕ

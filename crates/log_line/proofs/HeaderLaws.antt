@@ -7,12 +7,12 @@ use Prim.Native.Nat.{ℕ, suc, _+_, _-_, _*_, _^_, _≤_, _<_}
 use native.Mathlib.Omega.{arith}
 use borrow.Author.Tests.{lt-ltb, le-ltb, eq-eqb, ne-eqb}
 use lib.ListN.{length, take, drop}
-use Rattle.text.specs.Split.{split}
-use Rattle.text.specs.Fields.{firstPart, sameBytes}
+use Rattle.text.specs.Split.{split, firstPart}
+use Rattle.fields.specs.Fields.{sameBytes}
 use Rattle.text.specs.Walk.{Judged, passed, refused}
 use Rattle.log_line.specs.Header.{vertexName, boardName, labelsName, predsName, placeOf, isHeader}
 use Rattle.log_line.specs.Format.{Known, judgeHeader}
-use Rattle.text.proofs.PartLaws.{partsFrom, parts-all, parts-none, parts-step, part-kit}
+use Rattle.fields.proofs.PartLaws.{partsFrom, parts-all, parts-none, parts-step, part-kit}
 
 -- ---- the place of a name
 

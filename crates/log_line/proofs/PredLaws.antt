@@ -1,6 +1,6 @@
 -- The field `preds`, part by part: all parts numbers, rising, stored.
 -- Assumes nothing.
-use mathlib.Core.Path.{_≡_, refl, sym, ap, ap₂, _∙_}
+use mathlib.Core.Path.{_≡_, refl, sym, ap, _∙_}
 use mathlib.Core.Bool.{Bool, true, false, not, cond, _&&_, _||_}
 use mathlib.Core.List.{List, [], _∷_, _++_, map, append-nil, append-assoc}
 use Prim.Native.Nat.{ℕ, _+_, _-_, _≤_, _<_}
@@ -8,19 +8,19 @@ use native.Mathlib.Omega.{arith}
 use native.Mathlib.Numerals.{add-one}
 use borrow.Author.Tests.{le-leb, lt-leb, lt-ltb, le-ltb, eq-eqb, ne-eqb, ltb-true, ltb-false}
 use lib.Dec.{leb, ltb, eqb}
-use lib.ListN.{length, take, drop, set, length-map, length-append, length-set}
+use lib.ListN.{length, take, drop, set, length-map, length-append}
 use lib.Seq.{take-suc-set, length-take-le, set-out}
-use Rattle.text.specs.Split.{split}
-use Rattle.text.specs.Fields.{firstPart}
+use Rattle.text.specs.Split.{split, firstPart}
 use Rattle.numbers.specs.Numbers.{numberOf, isNumber, valueOf}
 use Rattle.numbers.specs.declared.Number.{Number}
 use Rattle.numbers.specs.declared.Number.the-variants.{Value, Malformed}
-use Rattle.text.proofs.FieldLaws.{count-some}
-use Rattle.log_line.specs.Step.{isNone, predsOf, areNumbers, risingBelow, mislinked}
+use Rattle.fields.proofs.FieldLaws.{count-some}
+use Rattle.numbers.specs.Listed.{isNone, listOf, areNumbers}
+use Rattle.log_line.specs.Step.{risingBelow, mislinked}
 use Rattle.log_line.specs.Scan.{Scanned, scanEnd}
 use Rattle.log_line.specs.declared.preds.PredScan.{PredScan}
-use Rattle.text.proofs.PartLaws.{partsFrom, parts-all, parts-none, parts-step, part-kit}
-use Rattle.log_line.proofs.NumberLaws.{not-number, is-number, value-some}
+use Rattle.fields.proofs.PartLaws.{partsFrom, parts-all, parts-none, parts-step, part-kit}
+use Rattle.numbers.proofs.ValueLaws.{not-number, is-number, value-some}
 
 -- ---- every part a number
 
@@ -236,19 +236,19 @@ module _ (v : ℕ) (l : List ℕ) (at k low : ℕ) (rising : Bool) (preds : List
       stored = λ z few. are ∙ s .kept (let m = many in omega arith) ∙ ap (λ (us : List ℕ). take k preds ++ us) (numbers-none l at past) ∙ append-nil (take k preds) ∙ ap (λ (m : ℕ). take m preds) (counted-is ∙ sym many);
     })
       where
-        are : predsOf l ≡ map valueOf (split 44 l)
+        are : listOf l ≡ map valueOf (split 44 l)
         are = rw some
 
-        many : length (predsOf l) ≡ length (split 44 l)
+        many : length (listOf l) ≡ length (split 44 l)
         many = ap length are ∙ length-map (split 44 l) valueOf
 
-        counted : eqb (length (predsOf l)) 0 ≡ false
-        counted = ne-eqb (length (predsOf l)) 0 (λ (z : length (predsOf l) ≡ 0). let m = many in let h = count-some 44 l in omega arith)
+        counted : eqb (length (listOf l)) 0 ≡ false
+        counted = ne-eqb (length (listOf l)) 0 (λ (z : length (listOf l) ≡ 0). let m = many in let h = count-some 44 l in omega arith)
 
-        linked-is : cond (eqb v 0) true (not rising) ≡ mislinked v (predsOf l)
+        linked-is : cond (eqb v 0) true (not rising) ≡ mislinked v (listOf l)
         linked-is = go (eqb v 0) refl
           where
-            go : (t : Bool) → eqb v 0 ≡ t → cond t true (not rising) ≡ cond t (not (eqb (length (predsOf l)) 0)) (eqb (length (predsOf l)) 0 || not (risingBelow v (predsOf l)))
+            go : (t : Bool) → eqb v 0 ≡ t → cond t true (not rising) ≡ cond t (not (eqb (length (listOf l)) 0)) (eqb (length (listOf l)) 0 || not (risingBelow v (listOf l)))
             go true q = sym (rw counted)
             go false q = sym (rw counted (ap (λ (us : List ℕ). not (risingBelow v us)) are ∙ ap not (sym rising-is-so)))
 
@@ -278,7 +278,7 @@ module _ (v : ℕ) (f preds : List ℕ) (size : length preds ≡ 8) (t : Bool) (
         stored = λ z few. rw none;
       }
     where
-      go : (s : Bool) → isNone f ≡ true → not s ≡ cond s (not (eqb (length (predsOf f)) 0)) (eqb (length (predsOf f)) 0 || not (risingBelow v (predsOf f)))
+      go : (s : Bool) → isNone f ≡ true → not s ≡ cond s (not (eqb (length (listOf f)) 0)) (eqb (length (listOf f)) 0 || not (risingBelow v (listOf f)))
       go true none = sym (rw none)
       go false none = sym (rw none)
 

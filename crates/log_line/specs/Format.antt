@@ -1,6 +1,6 @@
 -- The log format as document 01's list has it: from a list of bytes and a label count to the refusal's number and line, or the steps.
 use Prim.Native.Nat.{ℕ}
-use mathlib.Core.Bool.{Bool, cond}
+use mathlib.Core.Bool.{cond}
 use mathlib.Core.List.{List, [], _∷_, _++_}
 use lib.Dec.{eqb}
 use lib.ListN.{length}

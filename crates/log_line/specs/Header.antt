@@ -1,10 +1,10 @@
 -- The first line of a log: the names `vertex`, `board`, `labels`, `preds`, each once, in any order. The columns follow it.
-use Prim.Native.Nat.{ℕ, suc, _+_}
+use Prim.Native.Nat.{ℕ, suc}
 use mathlib.Core.Bool.{Bool, cond, _&&_}
 use mathlib.Core.List.{List, [], _∷_}
 use lib.Dec.{eqb, ltb}
 use lib.ListN.{length}
-use Rattle.text.specs.Fields.{sameBytes}
+use Rattle.fields.specs.Fields.{sameBytes}
 
 -- `vertex`, `board`, `labels`, `preds`
 abbrev pub vertexName : List ℕ

@@ -1,13 +1,12 @@
 -- A line below the header: what it says, and one predicate for each refusal of a line, over its fields and what went before it.
 use Prim.Native.Nat.{ℕ, _+_, _-_}
-use mathlib.Core.Bool.{Bool, true, false, not, cond, _&&_, _||_}
-use mathlib.Core.List.{List, [], _∷_, map}
+use mathlib.Core.Bool.{Bool, true, not, cond, _&&_, _||_}
+use mathlib.Core.List.{List, [], _∷_}
 use lib.Dec.{eqb, ltb}
 use lib.ListN.{length, getD}
 use Rattle.sets.specs.Sets.{within}
-use Rattle.text.specs.Split.{split}
-use Rattle.text.specs.Fields.{sameBytes}
 use Rattle.numbers.specs.Numbers.{isNumber, valueOf}
+use Rattle.numbers.specs.Listed.{isList, listOf}
 use Rattle.log_line.specs.Limits.{mostBoard, mostSteps, mostLinks, mostPreds}
 use Rattle.log_line.specs.Header.{Columns}
 
@@ -17,19 +16,11 @@ pub record Step : Type 0 where
   pub labels : ℕ
   pub preds : List ℕ
 
--- `-`: no links.
-abbrev pub isNone : List ℕ → Bool
-isNone f = sameBytes f (45 ∷ [])
-
--- The links: numbers joined by commas, or none.
-abbrev pub predsOf : List ℕ → List ℕ
-predsOf f = cond (isNone f) [] (map valueOf (split 44 f))
-
 abbrev pub stepOf : Columns → List (List ℕ) → Step
 stepOf c fs = record {
   board = valueOf (getD fs (c .board) []);
   labels = valueOf (getD fs (c .labels) []);
-  preds = predsOf (getD fs (c .preds) []);
+  preds = listOf (getD fs (c .preds) []);
 }
 
 -- The step that a line's number calls for, and the one that it names.
@@ -38,14 +29,6 @@ stepAt line = line - 2
 
 abbrev pub vertexOf : Columns → List (List ℕ) → ℕ
 vertexOf c fs = valueOf (getD fs (c .vertex) [])
-
-unfoldable pub areNumbers : List (List ℕ) → Bool
-areNumbers [] = true
-areNumbers (p ∷ ps) = isNumber p && areNumbers ps
-
--- `preds` is `-` or numbers joined by single commas.
-abbrev pub arePreds : List ℕ → Bool
-arePreds f = isNone f || areNumbers (split 44 f)
 
 -- The fields of vertex, board and labels are numbers.
 abbrev pub areNumbersAt : Columns → List (List ℕ) → Bool
@@ -56,7 +39,7 @@ areNumbersAt c fs = isNumber (getD fs (c .vertex) []) && (isNumber (getD fs (c .
 abbrev pub malformed : Columns → List (List ℕ) → Bool
 malformed c fs =
     not (eqb (length fs) 4)
-    || (not (areNumbersAt c fs) || (ltb mostBoard (valueOf (getD fs (c .board) [])) || not (arePreds (getD fs (c .preds) []))))
+    || (not (areNumbersAt c fs) || (ltb mostBoard (valueOf (getD fs (c .board) [])) || not (isList (getD fs (c .preds) []))))
 
 -- 23: the step number is not the line's number less two.
 abbrev pub misnumbered : Columns → ℕ → List (List ℕ) → Bool

@@ -5,9 +5,9 @@ ghost use Rattle.log_line.specs.Header.{placeOf};
 ghost use Rattle.log_line.specs.Format.{judgeHeader};
 ghost use Rattle.log_line.specs.Answers.{headerNumber, headerValues, headerSays};
 use crate::refusals::Refusal;
-use text::fields::field_count;
-use text::fields::first_length;
-use text::fields::same;
+use fields::field_count;
+use fields::first_length;
+use fields::same;
 
 // The place of each column among the fields, 0 to 3.
 pub struct ColumnOrder {

@@ -2,12 +2,12 @@
 ghost use mathlib.Core.Path.{_≡_};
 ghost use mathlib.Core.Bool.{false};
 ghost use lib.ListN.{length, set};
-ghost use Rattle.log_line.specs.Step.{isNone};
+ghost use Rattle.numbers.specs.Listed.{isNone};
 ghost use Rattle.log_line.specs.Scan.{Scanned, scanEnd};
+use fields::first_length;
+use fields::same;
 use numbers::Number;
 use numbers::read_number;
-use text::fields::first_length;
-use text::fields::same;
 
 // What the field comes to for a step: is it `-` or numbers joined by commas? If so, are the links wrong (24), and how many are there?
 pub struct PredScan {

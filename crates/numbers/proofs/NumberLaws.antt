@@ -8,11 +8,10 @@ use Prim.Native.Nat.{ℕ, _+_, _-_, _*_, _≤_, _<_}
 use native.Mathlib.Omega.{arith}
 use native.Mathlib.Nat.{le-refl}
 use borrow.Author.Tests.{le-leb, lt-leb, ne-eqb}
-use lib.Dec.{leb, eqb}
+use lib.Dec.{leb}
 use lib.ListN.{length, getD, drop, drop-of-length-le}
 use Rattle.lists.proofs.Parts.{drop-step}
-use Rattle.numbers.specs.Numbers.{digit, digits, valueFrom, plain, decimal, largest, answer, numberOf}
-use Rattle.numbers.specs.declared.Number.{Number}
+use Rattle.numbers.specs.Numbers.{digits, valueFrom, decimal, largest, answer, numberOf}
 use Rattle.numbers.specs.declared.Number.the-variants.{Value, Malformed}
 
 -- ---- reading

@@ -1,14 +1,14 @@
 -- A number has exactly one spelling: each reads back, and whatever reads as a number is its spelling.
 -- Assumes nothing.
 use mathlib.Core.Path.{_≡_, refl, sym, ap, ap₂, _∙_, subst}
-use mathlib.Core.Bool.{Bool, true, false, not, cond, _&&_}
+use mathlib.Core.Bool.{Bool, true, false, cond, _&&_}
 use mathlib.Core.List.{List, [], _∷_, _++_, append-assoc, append-nil}
 use mathlib.Core.Option.{Option, none, some}
 use Prim.Native.Nat.{ℕ, zero, suc, _+_, _-_, _*_, _/_, _%_, _≤_, _<_}
 use native.Mathlib.Omega.{arith}
-use borrow.Author.Tests.{le-leb, lt-leb, ne-eqb, lt-ltb, le-ltb, ltb-true, ltb-false}
-use lib.Dec.{T, leb, ltb, eqb, leb→le, eqb→eq, not-T, T-not, eqb-refl}
-use Rattle.numbers.specs.Numbers.{digit, digits, valueFrom, plain, decimal, largest, numberOf, spellIn, spell}
+use borrow.Author.Tests.{le-leb, ne-eqb, lt-ltb, le-ltb, ltb-true, ltb-false}
+use lib.Dec.{T, leb, ltb, eqb, leb→le, T-not, eqb-refl}
+use Rattle.numbers.specs.Numbers.{digit, digits, valueFrom, plain, decimal, spellIn, spell}
 
 -- ---- the spelling's last digit
 
@@ -46,18 +46,18 @@ spell-step v d h k =
 
 -- ---- whatever reads as a number is its spelling
 
-digit-of : (b : ℕ) → T (digit b) → (48 ≤ b) × (b ≤ 57)
+pub digit-of : (b : ℕ) → T (digit b) → (48 ≤ b) × (b ≤ 57)
 digit-of b t = go (leb 48 b) refl t
   where
     go : (s : Bool) → leb 48 b ≡ s → T (s && leb b 57) → (48 ≤ b) × (b ≤ 57)
     go true e u = (leb→le 48 b (subst T (sym e) tt), leb→le b 57 u)
     go false e u = absurd u
 
-both-left : (a b : Bool) → T (a && b) → T a
+pub both-left : (a b : Bool) → T (a && b) → T a
 both-left true b t = tt
 both-left false b t = absurd t
 
-both-right : (a b : Bool) → T (a && b) → T b
+pub both-right : (a b : Bool) → T (a && b) → T b
 both-right true b t = t
 both-right false b t = absurd t
 

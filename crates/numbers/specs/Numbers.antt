@@ -42,19 +42,19 @@ abbrev pub numberOf : List ℕ → Number
 numberOf bs = answer (decimal largest bs)
 
 -- The bytes are a number; and which: the value that is meant only where they are one.
-abbrev pub isValue : Number → Bool
-isValue Malformed = false
-isValue (Value n) = true
+abbrev pub isSome : Option ℕ → Bool
+isSome none = false
+isSome (some n) = true
 
-abbrev pub valueIs : Number → ℕ
-valueIs Malformed = 0
-valueIs (Value n) = n
+abbrev pub orZero : Option ℕ → ℕ
+orZero none = 0
+orZero (some n) = n
 
 abbrev pub isNumber : List ℕ → Bool
-isNumber bs = isValue (numberOf bs)
+isNumber bs = isSome (decimal largest bs)
 
 abbrev pub valueOf : List ℕ → ℕ
-valueOf bs = valueIs (numberOf bs)
+valueOf bs = orZero (decimal largest bs)
 
 -- The spelling of a number in at most d digits.
 unfoldable pub spellIn : ℕ → ℕ → List ℕ

@@ -1,6 +1,12 @@
 // A field as a number.
 ghost use mathlib.Core.Path.{_≡_};
+ghost use mathlib.Core.List.{[]};
+ghost use lib.ListN.{getD};
+ghost use Rattle.text.specs.Split.{split};
+ghost use Rattle.fields.specs.Fields.{Marked};
 ghost use Rattle.numbers.specs.Numbers.{numberOf};
+use fields::Field;
+use fields::marked_field;
 
 // A number, or bytes that are none.
 pub enum Number {
@@ -38,4 +44,15 @@ pub fn read_number(field: &[u8]) -> Number
         i += 1;
     }
     Number::Value(value as u16)
+}
+
+// The number in the field with this index, of a line whose fields are marked; a field that is not there is none.
+pub fn number_at(line: &[u8], marks: &[usize], index: usize) -> Number
+    requires { ⌜ Marked 32 (now line) (now marks) ⌝ }
+    ensures { λ r. ⌜ r ≡ numberOf (getD (split 32 (now (line .entry))) index []) ⌝ }
+{
+    match marked_field(line, 32, marks, index) {
+        Field::Missing => Number::Malformed,
+        Field::At(x, y) => read_number(&line[x..y]),
+    }
 }

@@ -12,5 +12,6 @@ pub mod Buffers
 pub mod FromText
 pub mod FromBuffer
 pub mod Spelling
+pub mod TextUnder
 pub mod TextOf
 pub mod PatternBuffers

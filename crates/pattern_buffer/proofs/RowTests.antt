@@ -8,11 +8,12 @@ use native.Mathlib.Omega.{arith}
 use borrow.Author.Tests.{eq-eqb, ne-eqb, lt-ltb, le-ltb, eqb-true, eqb-false, ltb-true, ltb-false, not-false}
 use lib.Dec.{eqb, ltb}
 use lib.ListN.{length, getD, drop, length-drop, length-map}
-use Rattle.text.specs.Fields.{sameBytes}
+use Rattle.fields.specs.Fields.{sameBytes}
 use Rattle.numbers.specs.Numbers.{isNumber, valueOf}
 use Rattle.pattern_line.specs.Limits.{mostBeads, mostStates}
 use Rattle.pattern_order.specs.Row.{Row, followsLast, disordered, breaksTurns, misruled}
-use Rattle.pattern_row.specs.Fields.{ruleOf, rowOf, areNumbers, malformed}
+use Rattle.pattern_row.specs.Fields.{ruleOf, rowOf, malformed}
+use Rattle.numbers.specs.Listed.{areNumbers}
 use Rattle.pattern_buffer.proofs.Ordered.{Follows, same-bead, next-bead, Fits, Ordered, start, more, told}
 
 -- ---- tests as Bools

@@ -1,14 +1,17 @@
 -- A text that gives a pattern buffer: a header, then a line for each state of each bead.
 use Prim.Native.Nat.{ℕ, zero, suc, _+_}
-use mathlib.Core.Bool.{cond}
+use mathlib.Core.Path.{_≡_}
+use mathlib.Core.Bool.{true, cond}
 use mathlib.Core.List.{List, [], _∷_, _++_, map}
 use lib.Dec.{eqb}
 use Rattle.sets.specs.Sets.{member}
-use Rattle.text.specs.Split.{joined}
+use Rattle.text.specs.Split.{split, lineFrom}
+use Rattle.text.specs.Lines.{whole}
 use Rattle.numbers.specs.Numbers.{spell}
-use Rattle.pattern_line.specs.Limits.{ruleAt, statesAt, acceptingAt, nextAt}
+use Rattle.pattern_line.specs.Limits.{ruleAt, statesAt, acceptingAt, nextAt, mostLine}
 use Rattle.pattern_header.specs.Header.{columns}
 use Rattle.pattern_order.specs.Row.{Row}
+use Rattle.pattern_header.specs.Header.{isHeader, labelCount}
 use Rattle.lists.specs.Tables.{table}
 use Rattle.pattern_buffer.specs.Meaning.{at, labelsIn, beadsIn}
 
@@ -34,10 +37,6 @@ rowsOfBeads b (suc j) = rowsOfBeads b j ++ rowsOfBead b j (at b (statesAt j))
 abbrev pub rowsOf : List ℕ → List Row
 rowsOf b = rowsOfBeads b (beadsIn b)
 
--- The fields of a line, parted by spaces, and its newline.
-abbrev pub lineOf : List (List ℕ) → List ℕ
-lineOf fs = joined 32 fs ++ (10 ∷ [])
-
 -- `SOME`, `ALL`
 abbrev pub ruleWord : ℕ → List ℕ
 ruleWord rule = cond (eqb rule 2) (65 ∷ 76 ∷ 76 ∷ []) (83 ∷ 79 ∷ 77 ∷ 69 ∷ [])
@@ -47,7 +46,17 @@ fieldsOf r = spell (r .bead) ∷ (ruleWord (r .rule) ∷ (spell (r .state) ∷ (
 
 unfoldable pub rowLines : List Row → List ℕ
 rowLines [] = []
-rowLines (r ∷ rs) = lineOf (fieldsOf r) ++ rowLines rs
+rowLines (r ∷ rs) = lineFrom (fieldsOf r) ++ rowLines rs
+
+-- The rows' lines under a header's line.
+abbrev pub textUnder : List ℕ → List ℕ → List ℕ
+textUnder header b = header ++ rowLines (rowsOf b)
+
+-- The bytes of a line, without its newline, are an accepted header that names c labels.
+pub record Heads (c : ℕ) (bytes : List ℕ) : Type 0 where
+  pub is-whole : whole mostLine (record { bytes = bytes; newline = true }) ≡ true
+  pub is-header : isHeader (split 32 bytes) ≡ true
+  pub names : labelCount (split 32 bytes) ≡ c
 
 -- Labels named by their numbers: 0, 1, ..
 unfoldable pub namesUpTo : ℕ → List (List ℕ)
@@ -55,7 +64,7 @@ namesUpTo zero = []
 namesUpTo (suc n) = namesUpTo n ++ (spell n ∷ [])
 
 abbrev pub headerLine : ℕ → List ℕ
-headerLine c = lineOf (columns ++ namesUpTo c)
+headerLine c = lineFrom (columns ++ namesUpTo c)
 
 abbrev pub textOf : List ℕ → List ℕ
-textOf b = headerLine (labelsIn b) ++ rowLines (rowsOf b)
+textOf b = textUnder (headerLine (labelsIn b)) b

@@ -10,15 +10,16 @@ use lib.Dec.{leb}
 use lib.ListN.{length, getD, take, drop, drop-of-length-le, length-drop}
 use lib.Seq.{drop-cons}
 use native.Mathlib.Numerals.{add-one}
-use Rattle.text.specs.Fields.{fieldOf, sameBytes}
-use Rattle.text.specs.declared.fields.Field.{Field}
-use Rattle.text.specs.declared.fields.Field.the-variants.{At, Missing}
+use Rattle.fields.specs.Fields.{fieldOf}
+use Rattle.fields.specs.declared.Field.{Field}
+use Rattle.fields.specs.declared.Field.the-variants.{At, Missing}
 use Rattle.pattern_line.specs.Line.{fieldsOf, fieldAt}
 use Rattle.pattern_header.specs.Header.{columns, sameFields, nameByte, nameBytes, isName, areNames, among, distinct, labelCount}
 use Rattle.pattern_line.specs.Answers.{refusal}
 use Rattle.pattern_header.specs.Answers.{headerJudged}
 use Rattle.pattern_line.proofs.WordLaws.{absent, selects, ordered, inside}
 use Rattle.pattern_line.proofs.Lists.{denied, undenied, every-more, every-stop, every-end}
+use Rattle.fields.specs.Fields.{sameBytes}
 
 -- ---- a name
 

@@ -2,14 +2,14 @@
 ghost use mathlib.Core.Path.{_≡_};
 ghost use Prim.Native.Nat.{_+_};
 ghost use lib.ListN.{take, drop};
-ghost use Rattle.text.specs.Fields.{Marked};
 ghost use Rattle.pattern_line.specs.Line.{fieldsOf, fieldAt};
 ghost use Rattle.pattern_header.specs.Header.{columns, sameFields, nameByte, nameBytes, isName, areNames, among, distinct};
 ghost use Rattle.pattern_header.specs.Answers.{headerSaid, headerJudged};
 use pattern_line::refusals::Refusal;
 use pattern_line::words::same_fields;
 use pattern_line::words::word_at;
-use text::fields::Field;
+ghost use Rattle.fields.specs.Fields.{Marked};
+use fields::Field;
 
 // How many labels the header names, or why it is refused.
 pub enum HeaderAnswer {
@@ -63,7 +63,7 @@ fn name_at(line: &[u8], marks: &[usize], index: usize) -> bool
     requires { ⌜ Marked 32 (now line) (now marks) ⌝ }
     ensures { λ r. ⌜ r ≡ isName (fieldAt (now (line .entry)) index) ⌝ }
 {
-    match text::fields::marked_field(line, 32, marks, index) {
+    match fields::marked_field(line, 32, marks, index) {
         Field::Missing => false,
         Field::At(from, to) => is_name(&line[from..to]),
     }
@@ -91,7 +91,7 @@ fn are_names(line: &[u8], marks: &[usize]) -> bool
     requires { ⌜ Marked 32 (now line) (now marks) ⌝ }
     ensures { λ r. ⌜ r ≡ areNames (drop 4 (fieldsOf (now (line .entry)))) ⌝ }
 {
-    let count = text::fields::marked_count(line, 32, marks);
+    let count = fields::marked_count(line, 32, marks);
     let mut i = 4;
     while i < count {
         if !name_at(line, marks, i) {
@@ -107,7 +107,7 @@ fn stands_again(line: &[u8], marks: &[usize], index: usize) -> bool
     requires { ⌜ Marked 32 (now line) (now marks) ⌝ }
     ensures { λ r. ⌜ r ≡ among (fieldAt (now (line .entry)) index) (drop (index + 1) (fieldsOf (now (line .entry)))) ⌝ }
 {
-    let count = text::fields::marked_count(line, 32, marks);
+    let count = fields::marked_count(line, 32, marks);
     if index >= count {
         return false;
     }
@@ -126,7 +126,7 @@ fn are_distinct(line: &[u8], marks: &[usize]) -> bool
     requires { ⌜ Marked 32 (now line) (now marks) ⌝ }
     ensures { λ r. ⌜ r ≡ distinct (drop 4 (fieldsOf (now (line .entry)))) ⌝ }
 {
-    let count = text::fields::marked_count(line, 32, marks);
+    let count = fields::marked_count(line, 32, marks);
     let mut i = 4;
     while i < count {
         if stands_again(line, marks, i) {
@@ -145,7 +145,7 @@ fn judge_marked(line: &[u8], marks: &[usize]) -> HeaderAnswer
     if !has_columns(line, marks) {
         return HeaderAnswer::Refused(Refusal::Header);
     }
-    let count = text::fields::marked_count(line, 32, marks);
+    let count = fields::marked_count(line, 32, marks);
     if count < 5 {
         return HeaderAnswer::Refused(Refusal::Header);
     }
@@ -166,6 +166,6 @@ pub fn read_header(line: &[u8]) -> HeaderAnswer
     ensures { λ r. ⌜ headerSaid r ≡ headerJudged (fieldsOf (now (line .entry))) ⌝ }
 {
     let mut marks = [0usize; 24];
-    text::fields::mark_fields(line, 32, &mut marks);
+    fields::mark_fields(line, 32, &mut marks);
     judge_marked(line, &marks)
 }

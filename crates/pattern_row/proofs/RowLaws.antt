@@ -8,12 +8,13 @@ use native.Mathlib.Omega.{arith}
 use borrow.Author.Tests.{eq-eqb, ne-eqb}
 use lib.Dec.{eqb}
 use lib.ListN.{length, drop, set}
-use Rattle.text.specs.Fields.{sameBytes}
-use Rattle.numbers.specs.Numbers.{numberOf, isValue, valueIs, isNumber, valueOf}
+use Rattle.numbers.specs.Numbers.{numberOf, isNumber, valueOf}
+use Rattle.fields.specs.Fields.{sameBytes}
+use Rattle.numbers.proofs.ValueLaws.{not-number, is-number, value-some}
 use Rattle.numbers.specs.declared.Number.{Number}
 use Rattle.numbers.specs.declared.Number.the-variants.{Value, Malformed}
 use Rattle.pattern_line.specs.Line.{fieldsOf, fieldAt}
-use Rattle.pattern_row.specs.Fields.{ruleOf, rowOf, areNumbers}
+use Rattle.pattern_row.specs.Fields.{ruleOf, rowOf}
 use Rattle.pattern_line.specs.Answers.{refusal}
 use Rattle.pattern_order.specs.Answers.{lineSaid, orderJudged, rowFor, rowsAt}
 use Rattle.pattern_row.specs.Answers.{rowJudged, nextSets}
@@ -21,6 +22,7 @@ use Rattle.pattern_order.specs.declared.Last.{Last}
 use Rattle.pattern_order.specs.declared.LineAnswer.{LineAnswer}
 use Rattle.pattern_line.proofs.Lists.{denied, undenied, every-more, every-stop, every-end}
 use Rattle.pattern_order.proofs.OrderLaws.{order-values}
+use Rattle.numbers.specs.Listed.{areNumbers}
 use Rattle.lists.proofs.Tables.{part, part-none, part-more, part-all}
 
 -- ---- the rule
@@ -39,22 +41,6 @@ module _ (line : List ℕ) (t : Bool) (g : t ≡ sameBytes (fieldAt line 1) (83 
 pub ruleset rule-kit = (rule-some, rule-all, rule-none)
 
 -- ---- numbers
-
-module _ (f : List ℕ) (n : Number) (g : n ≡ numberOf f) where
-  pub no-number : n ≡ Malformed → false ≡ isNumber f
-  no-number p = ap isValue (sym p ∙ g)
-
-  pub no-value : n ≡ Malformed → 0 ≡ valueOf f
-  no-value p = ap valueIs (sym p ∙ g)
-
-  module _ (v : ℕ) (p : n ≡ Value v) where
-    pub a-number : true ≡ isNumber f
-    a-number = ap isValue (sym p ∙ g)
-
-    pub its-value : v ≡ valueOf f
-    its-value = ap valueIs (sym p ∙ g)
-
-pub ruleset number-kit = (no-number, no-value, a-number, its-value)
 
 areNumbers-none : areNumbers [] ≡ true
 unfolding areNumbers
@@ -122,12 +108,12 @@ module _ (line : List ℕ) (labels : ℕ) (last : Last) (n : ℕ) (count : n ≡
     module _ (e : not t ≡ false) (x : Number) (p : x ≡ numberOf (fieldAt line 0)) where
       pub bead-malformed : x ≡ Malformed → refusal 11 ≡ rowJudged labels (rowsAt last) (fieldsOf line)
       unfolding rowJudged
-      bead-malformed m = sym (rw (counted, sym (no-number (fieldAt line 0) x p m)) refl)
+      bead-malformed m = sym (rw (counted, sym (not-number (fieldAt line 0) x p m)) refl)
 
       module _ (bead : ℕ) (is-bead : x ≡ Value bead) (y : Number) (q : y ≡ numberOf (fieldAt line 2)) where
         pub state-malformed : y ≡ Malformed → refusal 11 ≡ rowJudged labels (rowsAt last) (fieldsOf line)
         unfolding rowJudged
-        state-malformed m = sym (rw (counted, sym (a-number (fieldAt line 0) x p bead is-bead), sym (no-number (fieldAt line 2) y q m)) refl)
+        state-malformed m = sym (rw (counted, sym (is-number (fieldAt line 0) x p bead is-bead), sym (not-number (fieldAt line 2) y q m)) refl)
 
         module _ (state : ℕ) (is-state : y ≡ Value state) (z : Number) (r : z ≡ numberOf (fieldAt line 3)) where
           pub final-malformed : z ≡ Malformed → refusal 11 ≡ rowJudged labels (rowsAt last) (fieldsOf line)
@@ -135,9 +121,9 @@ module _ (line : List ℕ) (labels : ℕ) (last : Last) (n : ℕ) (count : n ≡
           final-malformed m =
               sym (rw (
                 counted,
-                sym (a-number (fieldAt line 0) x p bead is-bead),
-                sym (a-number (fieldAt line 2) y q state is-state),
-                sym (no-number (fieldAt line 3) z r m),
+                sym (is-number (fieldAt line 0) x p bead is-bead),
+                sym (is-number (fieldAt line 2) y q state is-state),
+                sym (not-number (fieldAt line 3) z r m),
               ) refl)
 
           pub row-right : (accepting : ℕ) → z ≡ Value accepting → (rule : ℕ) → rule ≡ ruleOf (fieldAt line 1) → (answer : LineAnswer)
@@ -146,13 +132,13 @@ module _ (line : List ℕ) (labels : ℕ) (last : Last) (n : ℕ) (count : n ≡
           unfolding rowJudged
           row-right accepting is-final rule u answer w =
               w ∙ order-values (rowsAt last) (rowFor (record { bead = bead; rule = rule; state = state; accepting = accepting })) (rowOf (fieldsOf line))
-              (its-value (fieldAt line 0) x p bead is-bead) u (its-value (fieldAt line 2) y q state is-state)
-              (its-value (fieldAt line 3) z r accepting is-final)
+              (value-some (fieldAt line 0) x p bead is-bead) u (value-some (fieldAt line 2) y q state is-state)
+              (value-some (fieldAt line 3) z r accepting is-final)
               ∙ sym (rw (
                 counted,
-                sym (a-number (fieldAt line 0) x p bead is-bead),
-                sym (a-number (fieldAt line 2) y q state is-state),
-                sym (a-number (fieldAt line 3) z r accepting is-final),
+                sym (is-number (fieldAt line 0) x p bead is-bead),
+                sym (is-number (fieldAt line 2) y q state is-state),
+                sym (is-number (fieldAt line 3) z r accepting is-final),
                 sym g ∙ undenied t e,
               ) refl)
 

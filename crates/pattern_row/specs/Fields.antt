@@ -1,11 +1,12 @@
 -- The fields of a line below the header: what they say, and when they are malformed.
 use Prim.Native.Nat.{ℕ, _+_}
-use mathlib.Core.Bool.{Bool, true, not, cond, _&&_, _||_}
+use mathlib.Core.Bool.{Bool, not, cond, _&&_, _||_}
 use mathlib.Core.List.{List, [], _∷_, map}
 use lib.Dec.{eqb}
 use lib.ListN.{length, getD, drop}
-use Rattle.text.specs.Fields.{sameBytes}
+use Rattle.fields.specs.Fields.{sameBytes}
 use Rattle.numbers.specs.Numbers.{isNumber, valueOf}
+use Rattle.numbers.specs.Listed.{areNumbers}
 use Rattle.pattern_order.specs.Row.{Row}
 
 -- `SOME` is 1, `ALL` is 2, and any other field is no rule.
@@ -20,10 +21,6 @@ rowOf fs = record {
   accepting = valueOf (getD fs 3 []);
   next = map valueOf (drop 4 fs);
 }
-
-unfoldable pub areNumbers : List (List ℕ) → Bool
-areNumbers [] = true
-areNumbers (p ∷ ps) = isNumber p && areNumbers ps
 
 -- 11, below the header: a wrong number of fields, or a field other than the rule that isn't a number.
 abbrev pub malformed : ℕ → List (List ℕ) → Bool

@@ -1,20 +1,21 @@
 // A line below the header: its fields, then what it says.
 ghost use mathlib.Core.Path.{_≡_};
 ghost use lib.ListN.{length, drop};
-ghost use Rattle.text.specs.Fields.{Marked};
+ghost use Rattle.fields.specs.Fields.{Marked};
 ghost use Rattle.numbers.specs.Numbers.{isNumber, valueOf};
 ghost use Rattle.pattern_line.specs.Line.{fieldsOf, fieldAt};
 ghost use Rattle.pattern_order.specs.Answers.{lineSaid, rowsAt};
-ghost use Rattle.pattern_row.specs.Fields.{ruleOf, areNumbers};
+ghost use Rattle.pattern_row.specs.Fields.{ruleOf};
 ghost use Rattle.pattern_row.specs.Answers.{rowJudged, nextSets};
+ghost use Rattle.numbers.specs.Listed.{areNumbers};
 use numbers::Number;
 use pattern_line::refusals::Refusal;
-use pattern_line::words::number_at;
 use pattern_line::words::word_at;
 use pattern_order::Last;
 use pattern_order::LineAnswer;
 use pattern_order::LineValues;
 use pattern_order::judge_values;
+use numbers::number_at;
 
 fn rule_at(line: &[u8], marks: &[usize]) -> u16
     requires { ⌜ Marked 32 (now line) (now marks) ⌝ }
@@ -45,7 +46,7 @@ fn are_numbers(line: &[u8], marks: &[usize]) -> bool
     requires { ⌜ Marked 32 (now line) (now marks) ⌝ }
     ensures { λ r. ⌜ r ≡ areNumbers (drop 4 (fieldsOf (now (line .entry)))) ⌝ }
 {
-    let count = text::fields::marked_count(line, 32, marks);
+    let count = fields::marked_count(line, 32, marks);
     let mut i = 4;
     while i < count {
         if !is_number_at(line, marks, i) {
@@ -93,7 +94,7 @@ fn read_marked(
     ensures { λ _. ⌜ now (next .exit) ≡ nextSets (fieldsOf (now (line .entry))) ⌝ }
 {
     read_next(line, marks, next);
-    if text::fields::marked_count(line, 32, marks) != 4 + labels as usize {
+    if fields::marked_count(line, 32, marks) != 4 + labels as usize {
         return LineAnswer::Refused(Refusal::Malformed);
     }
     if !are_numbers(line, marks) {
@@ -127,6 +128,6 @@ pub fn read_row(line: &[u8], labels: u16, last: Last, next: &mut [u16]) -> LineA
     ensures { λ _. ⌜ now (next .exit) ≡ nextSets (fieldsOf (now (line .entry))) ⌝ }
 {
     let mut marks = [0usize; 24];
-    text::fields::mark_fields(line, 32, &mut marks);
+    fields::mark_fields(line, 32, &mut marks);
     read_marked(line, &marks, labels, last, next)
 }

@@ -9,17 +9,17 @@ use lib.ListN.{getD, take}
 use Rattle.sets.specs.Sets.{setOf, membersFrom}
 use Rattle.text.specs.Split.{split}
 use Rattle.text.specs.Lines.{asLines, printable}
-use Rattle.text.specs.Fields.{sameBytes}
+use Rattle.fields.specs.Fields.{sameBytes}
 use Rattle.numbers.specs.Numbers.{digits, valueFrom, decimal}
 use Rattle.text.specs.Walk.{Outcome, accepted, faulty, walk}
 use Rattle.pattern_line.specs.Limits.{nextAt}
 use Rattle.lists.specs.Tables.{table}
 use Rattle.pattern_header.specs.Header.{sameFields, nameBytes, areNames, among, distinct}
 use Rattle.pattern_order.specs.Row.{followsLast, breaksTurns}
-use Rattle.pattern_row.specs.Fields.{areNumbers}
 use Rattle.pattern_rows.specs.Next.{statesOf, allWithin, allSingle}
 use Rattle.pattern_rows.specs.Format.{Known, patternText}
 use Rattle.pattern_rows.specs.Buffer.{beadCount, ruleOfBead, acceptingOf, nextOf, bufferOf}
+use Rattle.numbers.specs.Listed.{areNumbers}
 
 -- `pattern.txt`, a line of it in each line here
 unfoldable pub listing : List ℕ

@@ -1,7 +1,7 @@
 -- How long the program's output can be: the header, and a line a step, each with the step, the set of prefixes and at most nine pivots.
 -- Assumes nothing.
 use Prim.Native.Nat.{ℕ, zero, suc, _+_, _-_, _*_, _^_, _≤_, _<_}
-use mathlib.Core.Path.{_≡_, refl, sym, ap, _∙_, subst}
+use mathlib.Core.Path.{_≡_, sym, subst}
 use mathlib.Core.Bool.{Bool, true, false, cond}
 use mathlib.Core.List.{List, [], _∷_, _++_, map}
 use native.Mathlib.Omega.{arith}
@@ -13,7 +13,8 @@ use Rattle.answer.specs.declared.Answer.{Answer}
 use Rattle.sets.specs.Sets.{member}
 use Rattle.text.specs.Split.{joined}
 use Rattle.numbers.specs.Numbers.{spell}
-use Rattle.writing.proofs.PutLaws.{length-spell}
+use Rattle.numbers.proofs.SpelledNumbers.{length-spell, Under}
+use Rattle.numbers.proofs.ListedLaws.{length-listed}
 use Rattle.necklace.specs.Dag.{Dag}
 use Rattle.necklace.specs.Necklace.{Pattern}
 use Rattle.necklace.specs.Compute.{row, prefixes, pivots, before, seek, serves?, holds?}
@@ -30,8 +31,7 @@ use Rattle.report.specs.Report.{headerText, pivotsWord, rowText, refusal
 
 -- Each number has at most four digits.
 abbrev Small : List ℕ → Type 0
-Small [] = Unit
-Small (n ∷ ns) = (n < 10 ^ 4) × Small ns
+Small ns = Under (10 ^ 4) ns
 
 small-append : (xs ys : List ℕ) → Small xs → Small ys → Small (xs ++ ys)
 small-append [] ys a b = b
@@ -75,14 +75,6 @@ small-row G P v h = small-take 9 (cond (holds? G P (P .count) v) (pivots G P (P 
 
 -- ---- a line
 
-joined-most : (ns : List ℕ) → Small ns → length (joined 44 (map spell ns)) ≤ 5 * length ns - 1
-unfolding joined
-joined-most [] a = omega arith
-joined-most (n ∷ []) a = omega (arith, length-spell 3 n (a .0))
-joined-most (n ∷ m ∷ ns) a =
-    let e = length-append (spell n) (44 ∷ joined 44 (map spell (m ∷ ns))) in
-    omega (arith, length-spell 3 n (a .0), joined-most (m ∷ ns) (a .1))
-
 word-most : (beads : ℕ) (r : List ℕ) → length r ≡ 10 → Small (drop 1 r) → length (pivotsWord beads r) ≤ 44
 word-most beads r e a = go (member (beads - 1) (getD r 0 0))
   where
@@ -93,7 +85,7 @@ word-most beads r e a = go (member (beads - 1) (getD r 0 0))
     few = let e₁ = length-take (suc beads) (drop 1 r) in let e₂ = length-drop 1 r in omega arith
 
     go : (b : Bool) → length (cond b (joined 44 (map spell ps)) (45 ∷ [])) ≤ 44
-    go true = omega (arith, joined-most ps (small-take (suc beads) (drop 1 r) a), few)
+    go true = omega (arith, length-listed 3 ps (small-take (suc beads) (drop 1 r) a), few)
     go false = omega arith
 
 line-most : (beads step : ℕ) (r : List ℕ) → step < 10 ^ 4 → getD r 0 0 < 10 ^ 3 → length r ≡ 10 → Small (drop 1 r)

@@ -1,19 +1,19 @@
 -- The lines of the steps, one after the other. Assumes nothing.
-use Prim.Native.Nat.{ℕ, zero, suc, _+_, _-_, _*_, _^_, _≤_, _<_}
-use mathlib.Core.Path.{_≡_, refl, sym, ap, _∙_, subst}
-use mathlib.Core.List.{List, [], _++_, append-assoc, append-nil}
+use Prim.Native.Nat.{ℕ, _+_, _-_, _*_, _≤_}
+use mathlib.Core.Path.{_≡_, subst}
+use mathlib.Core.List.{List, _++_}
 use native.Mathlib.Numerals.{add-one}
 use native.Mathlib.Omega.{arith}
-use lib.ListN.{length, take, drop}
+use lib.ListN.{take, drop}
 use Rattle.text.specs.Split.{joined}
 use Rattle.writing.specs.Put.{Put}
 use Rattle.writing.proofs.PutLaws.{nothing-put, then}
 use Rattle.report.specs.Report.{headerText, rowText, rowLines}
 use Rattle.judging.specs.Judge.{rowIn}
 
-pub no-lines : (l result : List ℕ) (beads at : ℕ) → Put (rowLines beads 0 result) at l at l
+pub no-rows : (l result : List ℕ) (beads at : ℕ) → Put (rowLines beads 0 result) at l at l
 unfolding rowLines
-no-lines l result beads at = nothing-put l at
+no-rows l result beads at = nothing-put l at
 
 module _ (l m new result : List ℕ) (beads at step next r : ℕ) where
   pub line-more : Put (rowLines beads step result) at l next m
@@ -41,4 +41,4 @@ pub rows-put : (l m new result : List ℕ) (beads steps next r : ℕ) → Put he
     → Put (headerText ++ rowLines beads steps result) 0 l r new
 rows-put l m new result beads steps next r a b = then headerText (rowLines beads steps result) l m new 0 next r a b
 
-pub ruleset kit = (no-lines, line-more, line-next, lines-all, header-next, rows-put)
+pub ruleset kit = (no-rows, line-more, line-next, lines-all, header-next, rows-put)

@@ -2,7 +2,7 @@
 ghost use mathlib.Core.Path.{_≡_};
 ghost use Rattle.answer.specs.Answers.{codeOf};
 ghost use Rattle.pattern.specs.Answer.{patternAnswer, patternAfter};
-ghost use Rattle.log.specs.Buffer.{logAnswer, logAfter};
+ghost use Rattle.log.specs.Answer.{logAnswer, logAfter};
 ghost use Rattle.judging.specs.Judge.{judgeAnswer, resultAfter, workAfter};
 
 // The pattern reader, for C.

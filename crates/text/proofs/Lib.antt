@@ -1,7 +1,5 @@
 pub mod SplitLaws
-pub mod FieldLaws
-pub mod PartLaws
-pub mod MarkLaws
+pub mod Spelled
 pub mod LineLaws
 pub mod WalkLaws
 pub mod FirstBadLaws

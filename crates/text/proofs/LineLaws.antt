@@ -1,23 +1,21 @@
 -- The first line of a text, as the loops find it, and the lines of a text one after the other.
 -- Assumes nothing.
-use mathlib.Core.Path.{_≡_, refl, sym, ap, ap₂, _∙_, subst}
+use mathlib.Core.Path.{_≡_, refl, sym, ap, _∙_}
 use mathlib.Core.Bool.{Bool, true, false, cond, _&&_}
 use mathlib.Core.List.{List, [], _∷_, _++_}
 use Prim.Native.Nat.{ℕ, suc, _+_, _-_, _≤_, _<_}
 use native.Mathlib.Omega.{arith}
 use native.Mathlib.Nat.{zero-add}
 use native.Mathlib.Numerals.{add-one}
-use borrow.Author.Tests.{le-leb, lt-leb, lt-ltb, le-ltb, ltb-true, ltb-false}
-use lib.Dec.{leb, ltb}
+use borrow.Author.Tests.{le-leb, lt-leb, lt-ltb, le-ltb}
+use lib.Dec.{ltb}
 use lib.ListN.{length, getD, take, drop, drop-of-length-le}
 use lib.Seq.{length-take-le, take-suc}
 use Rattle.text.specs.Split.{prepend, split}
-use Rattle.text.specs.Lines.{TextLine, lastLine, asLines, linesOf, printableByte, printable, answerOf, headLine, firstLine, lineOf, whole, endOf, ended}
+use Rattle.text.specs.Lines.{TextLine, lastLine, asLines, linesOf, printableByte, printable, headLine, firstLine, lineOf, ended}
 use Rattle.text.specs.declared.lines.End.{End}
 use Rattle.text.specs.declared.lines.End.the-variants.{At, Over, Missing}
-use Rattle.text.specs.declared.lines.LineFault.{LineFault}
 use Rattle.text.specs.declared.lines.LineFault.the-variants.{Long, Unended, Unprintable}
-use Rattle.text.specs.declared.lines.Line.{Line}
 use Rattle.text.specs.declared.lines.Line.the-variants.{Whole, Broken}
 use Rattle.lists.proofs.Parts.{drop-step}
 use Rattle.text.proofs.SplitLaws.{split-at, split-on, split-empty, split-some, Cut, uncut, cut, cut-of}

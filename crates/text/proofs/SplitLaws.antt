@@ -1,17 +1,16 @@
--- What splitting at a separator gives: parts without it, which joined give the list back; and the first part, as a loop finds it.
+-- What splitting at a separator gives: parts which joined give the list back; and the first part, as a loop finds it.
 -- Assumes nothing.
-use mathlib.Core.Path.{_≡_, refl, sym, ap, ap₂, _∙_, subst}
-use mathlib.Core.Bool.{Bool, true, false, cond, _&&_}
-use mathlib.Core.List.{List, [], _∷_, _++_, append-nil}
-use Prim.Native.Nat.{ℕ, zero, suc, _+_, _-_, _≤_, _<_}
+use mathlib.Core.Path.{_≡_, refl, sym, ap, ap₂, _∙_}
+use mathlib.Core.Bool.{Bool, true, false}
+use mathlib.Core.List.{List, [], _∷_}
+use Prim.Native.Nat.{ℕ, suc, _+_, _-_, _≤_, _<_}
 use native.Mathlib.Omega.{arith}
 use native.Mathlib.Numerals.{add-one}
 use borrow.Author.Tests.{eq-eqb, ne-eqb, eqb-true, eqb-false}
 use lib.Dec.{eqb}
-use lib.ListN.{length, getD, take, drop, length-append}
-use lib.Seq.{length-take-le, take-length, take-at, drop-append-add}
-use Rattle.text.specs.Split.{prepend, split, joined}
-use Rattle.text.specs.Fields.{firstPart, partStart}
+use lib.ListN.{length, getD, take, drop}
+use lib.Seq.{length-take-le, take-length}
+use Rattle.text.specs.Split.{prepend, split, joined, firstPart}
 
 -- ---- one byte more in front
 
@@ -86,7 +85,7 @@ first-short b l = go (cut-of b l)
     go (uncut f s) = let z = ap length f in omega arith
     go (cut m h f s) = let z = ap length f ∙ length-take-le m l (omega arith) in omega arith
 
--- ---- the parts joined are the list, and they are the only parts without the separator that are
+-- ---- the parts joined are the list
 
 pub joined-prepend : (b x : ℕ) (p : List ℕ) (ps : List (List ℕ)) → joined b (prepend x (p ∷ ps)) ≡ x ∷ joined b (p ∷ ps)
 unfolding joined
@@ -105,89 +104,3 @@ joined-split b (x ∷ xs) = go (eqb x b) refl (split-some b xs) (joined-split b 
     go false e r ih =
         ap (joined b) (split-on b x xs (eqb-false x b e) ∙ ap (prepend x) (r .2)) ∙ joined-prepend b x (r .0) (r .1)
         ∙ ap (λ (k : List ℕ). x ∷ k) (sym (ap (joined b) (r .2)) ∙ ih)
-
--- No byte of a list is b.
-pub Free : ℕ → List ℕ → Type 0
-Free b [] = Unit {0}
-Free b (x ∷ xs) = (x ≡ b → ⊥) × Free b xs
-
-pub AllFree : ℕ → List (List ℕ) → Type 0
-AllFree b [] = Unit {0}
-AllFree b (p ∷ ps) = Free b p × AllFree b ps
-
-pub split-free : (b : ℕ) (l : List ℕ) → AllFree b (split b l)
-unfolding Free AllFree
-split-free b [] = rw (split-empty b) (tt, tt)
-split-free b (x ∷ xs) = go (eqb x b) refl (split b xs) refl (split-free b xs)
-  where
-    go : (t : Bool) → eqb x b ≡ t → (k : List (List ℕ)) → split b xs ≡ k → AllFree b k → AllFree b (split b (x ∷ xs))
-    go true e k s f = rw (split-at b x xs (eqb-true x b e), s) (tt, f)
-    go false e [] s f = rw (split-on b x xs (eqb-false x b e), s) ((eqb-false x b e, tt), tt)
-    go false e (p ∷ ps) s f = rw (split-on b x xs (eqb-false x b e), s) ((eqb-false x b e, f .0), f .1)
-
--- A part without the separator stays whole: alone, and before a separator.
-split-free-part : (b : ℕ) (p : List ℕ) → Free b p → split b p ≡ p ∷ []
-unfolding Free
-split-free-part b [] f = split-empty b
-split-free-part b (x ∷ xs) f = split-on b x xs (f .0) ∙ ap (prepend x) (split-free-part b xs (f .1))
-
-split-front : (b : ℕ) (p rest : List ℕ) → Free b p → split b (p ++ (b ∷ rest)) ≡ p ∷ split b rest
-unfolding Free
-split-front b [] rest f = split-at b b rest refl
-split-front b (x ∷ xs) rest f = split-on b x (xs ++ (b ∷ rest)) (f .0) ∙ ap (prepend x) (split-front b xs rest (f .1))
-
-pub split-joined : (b : ℕ) (p : List ℕ) (ps : List (List ℕ)) → AllFree b (p ∷ ps) → split b (joined b (p ∷ ps)) ≡ p ∷ ps
-unfolding AllFree joined
-split-joined b p [] f = split-free-part b p (f .0)
-split-joined b p (q ∷ ps) f = split-front b p (joined b (q ∷ ps)) (f .0) ∙ ap (λ (k : List (List ℕ)). p ∷ k) (split-joined b q ps (f .1))
-
--- ---- where a part stands in the whole
-
-pub start-none : (ps : List (List ℕ)) → partStart ps 0 ≡ 0
-unfolding partStart
-start-none ps = refl
-
-pub start-next : (p : List ℕ) (ps : List (List ℕ)) (i : ℕ) → partStart (p ∷ ps) (suc i) ≡ length p + 1 + partStart ps i
-unfolding partStart
-start-next p ps i = refl
-
-joined-front : (b : ℕ) (p : List ℕ) (ps : List (List ℕ)) → (rest : List ℕ) × (joined b (p ∷ ps) ≡ p ++ rest)
-unfolding joined
-joined-front b p [] = ([], sym (append-nil p))
-joined-front b p (q ∷ ps) = (b ∷ joined b (q ∷ ps), refl)
-
-joined-next : (b : ℕ) (p q : List ℕ) (ps : List (List ℕ)) (n : ℕ) → drop (length p + 1 + n) (joined b (p ∷ (q ∷ ps))) ≡ drop n (joined b (q ∷ ps))
-unfolding joined
-joined-next b p q ps n =
-    let e : length p + 1 + n ≡ length p + suc n = omega arith in
-    ap (λ (m : ℕ). drop m (p ++ (b ∷ joined b (q ∷ ps)))) e ∙ drop-append-add p (b ∷ joined b (q ∷ ps)) (suc n)
-
--- A part's place in the parts joined selects it.
-pub part-there : (b : ℕ) (ps : List (List ℕ)) (i : ℕ) → i < length ps → take (length (getD ps i [])) (drop (partStart ps i) (joined b ps)) ≡ getD ps i []
-part-there b [] i h = absurd (omega arith)
-part-there b (p ∷ ps) zero h =
-    let f = joined-front b p ps in
-    ap (λ (n : ℕ). take (length p) (drop n (joined b (p ∷ ps)))) (start-none (p ∷ ps)) ∙ ap (take (length p)) (f .1) ∙ take-at p (f .0) (length p) refl
-part-there b (p ∷ []) (suc i) h = absurd (omega arith)
-part-there b (p ∷ (q ∷ ps)) (suc i) h =
-    ap (λ (k : List ℕ). take (length (getD (q ∷ ps) i [])) k)
-    (ap (λ (n : ℕ). drop n (joined b (p ∷ (q ∷ ps)))) (start-next p (q ∷ ps) i) ∙ joined-next b p q ps (partStart (q ∷ ps) i))
-    ∙ part-there b (q ∷ ps) i (omega arith)
-
-joined-size : (b : ℕ) (p q : List ℕ) (ps : List (List ℕ)) → length (joined b (p ∷ (q ∷ ps))) ≡ length p + suc (length (joined b (q ∷ ps)))
-unfolding joined
-joined-size b p q ps = length-append p (b ∷ joined b (q ∷ ps))
-
-pub part-inside : (b : ℕ) (ps : List (List ℕ)) (i : ℕ) → i < length ps → partStart ps i + length (getD ps i []) ≤ length (joined b ps)
-part-inside b [] i h = absurd (omega arith)
-part-inside b (p ∷ ps) zero h =
-    let f = joined-front b p ps in
-    let z = start-none (p ∷ ps) in
-    let e = ap length (f .1) ∙ length-append p (f .0) in
-    omega arith
-part-inside b (p ∷ []) (suc i) h = absurd (omega arith)
-part-inside b (p ∷ (q ∷ ps)) (suc i) h =
-    let k = part-inside b (q ∷ ps) i (omega arith) in
-    let z = start-next p (q ∷ ps) i in
-    let e = joined-size b p q ps in
-    omega arith

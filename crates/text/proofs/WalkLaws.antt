@@ -1,23 +1,22 @@
 -- How a reader's loop follows the walk over the lines: the answer for the whole text is the answer for what is left of it.
 -- Assumes nothing.
 use mathlib.Core.Path.{_≡_, refl, sym, ap, ap₂, _∙_}
-use mathlib.Core.Bool.{Bool, true, false, cond, _&&_, _||_}
+use mathlib.Core.Bool.{Bool, true, false}
 use mathlib.Core.List.{List, [], _∷_}
-use Prim.Native.Nat.{ℕ, suc, _+_, _-_, _*_, _^_, _≤_, _<_}
+use Prim.Native.Nat.{ℕ, _+_, _-_, _*_, _^_, _≤_, _<_}
 use native.Mathlib.Omega.{arith}
 use borrow.Author.Tests.{le-leb, lt-leb, lt-ltb, le-ltb, eq-eqb, ne-eqb, ltb-true, ltb-false}
-use lib.Dec.{leb, ltb, eqb}
+use lib.Dec.{ltb}
 use lib.ListN.{length, take, drop, drop-of-length-le, length-drop}
 use lib.Seq.{drop-drop, length-take-le}
-use Rattle.text.specs.Split.{split}
-use Rattle.text.specs.Lines.{TextLine, lastLine, asLines, linesOf, printable, firstLine, answerOf, lineOf, whole}
-use Rattle.text.specs.Walk.{Judged, refused, passed, Outcome, accepted, faulty, proceed, walk, Format, badSize, readText}
+use Rattle.text.specs.Lines.{TextLine, lastLine, linesOf, printable, firstLine, answerOf, lineOf, whole}
+use Rattle.text.specs.Walk.{Judged, refused, passed, Outcome, accepted, faulty, proceed, walk, Format, readText}
 use Rattle.text.specs.declared.lines.LineFault.{LineFault}
 use Rattle.text.specs.declared.lines.LineFault.the-variants.{Long, Unended, Unprintable}
 use Rattle.text.specs.declared.lines.Line.{Line}
 use Rattle.text.specs.declared.lines.Line.the-variants.{Whole, Broken}
 use Rattle.lists.proofs.Parts.{rest-part}
-use Rattle.text.proofs.SplitLaws.{split-empty}
+use Rattle.text.proofs.Spelled.{no-lines}
 use Rattle.text.proofs.LineLaws.{Lead, unended, ends, lead-of}
 
 -- ---- what a first line's answer says of the lines
@@ -93,10 +92,6 @@ walk-line : {S : Type 0} (judge : S → ℕ → TextLine → Judged S) (s : S) (
     → walk judge s n (l ∷ ls) ≡ proceed n (judge s n l) (λ t. walk judge t (n + 1) ls)
 unfolding walk
 walk-line judge s n l ls = refl
-
-no-lines : linesOf [] ≡ []
-unfolding asLines
-no-lines = ap asLines (split-empty 10)
 
 -- A turn of a reader's loop. `all` is the answer for the whole text; s is known before the line n, which begins at the place `at`; and
 -- `r` is what `read_line` says of the text from there on.

@@ -8,7 +8,6 @@ use lib.ListN.{length}
 use Rattle.text.specs.Split.{split}
 use Rattle.text.specs.declared.lines.End.{End}
 use Rattle.text.specs.declared.lines.End.the-variants.{At, Over, Missing}
-use Rattle.text.specs.declared.lines.LineFault.{LineFault}
 use Rattle.text.specs.declared.lines.LineFault.the-variants.{Long, Unended, Unprintable}
 use Rattle.text.specs.declared.lines.Line.{Line}
 use Rattle.text.specs.declared.lines.Line.the-variants.{Whole, Broken}

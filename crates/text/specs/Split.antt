@@ -3,6 +3,7 @@ use Prim.Native.Nat.{ℕ}
 use mathlib.Core.Bool.{cond}
 use mathlib.Core.List.{List, [], _∷_, _++_}
 use lib.Dec.{eqb}
+use lib.ListN.{getD}
 
 -- The byte in front of the first part.
 abbrev pub prepend : ℕ → List (List ℕ) → List (List ℕ)
@@ -12,6 +13,10 @@ prepend x (p ∷ ps) = (x ∷ p) ∷ ps
 unfoldable pub split : ℕ → List ℕ → List (List ℕ)
 split b [] = [] ∷ []
 split b (x ∷ xs) = cond (eqb x b) ([] ∷ split b xs) (prepend x (split b xs))
+
+-- The first part: what stands before the first separator.
+abbrev pub firstPart : ℕ → List ℕ → List ℕ
+firstPart b l = getD (split b l) 0 []
 
 -- The parts in a row, with the separator between two.
 unfoldable pub joined : ℕ → List (List ℕ) → List ℕ

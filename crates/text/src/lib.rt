@@ -1,4 +1,3 @@
-// From bytes to lines, lines to fields, for a text of any length.
+// From bytes to lines, for a text of any length.
 // Every function takes the bytes it speaks of as a slice, asks nothing of its caller, and answers by a definition on lists of bytes.
-pub mod fields;
 pub mod lines;

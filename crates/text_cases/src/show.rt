@@ -1,6 +1,6 @@
 // What each function of `text` and `numbers` answers, in words.
+use fields::Field;
 use numbers::Number;
-use text::fields::Field;
 use text::lines::Line;
 use text::lines::LineFault;
 
@@ -29,7 +29,7 @@ fn print_fault(fault: LineFault) {
 
 // How many fields there are, and the place of each and of the one past the last.
 pub fn fields(line: &[u8], separator: u8) {
-    let count = text::fields::field_count(line, separator);
+    let count = fields::field_count(line, separator);
     trial::print_number(count as u64);
     print_places(line, separator, count);
     next_place(line, separator, count);
@@ -48,7 +48,7 @@ fn next_place(line: &[u8], separator: u8, index: usize) {
 
 pub fn place(line: &[u8], separator: u8, index: usize) {
     trial::print_number(index as u64);
-    match text::fields::find_field(line, separator, index) {
+    match fields::find_field(line, separator, index) {
         Field::At(from, to) => print_span(from as u64, to as u64),
         Field::Missing => trial::print_bytes(b" missing"),
     }
@@ -60,7 +60,7 @@ fn print_span(from: u64, to: u64) {
 }
 
 pub fn equal(a: &[u8], b: &[u8]) {
-    if text::fields::same(a, b) {
+    if fields::same(a, b) {
         trial::print_bytes(b"the same");
     } else {
         trial::print_bytes(b"not the same");

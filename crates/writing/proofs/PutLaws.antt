@@ -1,16 +1,15 @@
 -- What stands in a buffer after a byte, bytes and a number are put into it.
 -- Assumes nothing.
-use Prim.Native.Nat.{ℕ, zero, suc, _+_, _-_, _*_, _/_, _%_, _^_, _≤_, _<_}
-use mathlib.Core.Path.{_≡_, refl, sym, ap, _∙_, subst}
+use Prim.Native.Nat.{ℕ, suc, _+_, _-_, _/_, _%_, _^_, _≤_, _<_}
+use mathlib.Core.Path.{_≡_, refl, sym, ap, _∙_}
 use mathlib.Core.List.{List, [], _∷_, _++_, append-assoc, append-nil}
-use native.Mathlib.Nat.{pow-suc}
 use native.Mathlib.Numerals.{add-one}
-use native.Mathlib.Decide.{decLe}
 use native.Mathlib.Omega.{arith}
-use lib.ListN.{length, getD, take, drop, set, length-append}
+use lib.ListN.{length, getD, take, set, length-append}
 use lib.Seq.{sets, set-out, take-suc, take-all, length-take-le}
 use Rattle.numbers.specs.Numbers.{spell}
-use Rattle.numbers.proofs.Spelling.{spell-digit, spell-step}
+use Rattle.numbers.proofs.Spelling.{spell-digit}
+use Rattle.numbers.proofs.SpelledNumbers.{spell-more, length-spell-digit, length-spell-more, length-spell}
 use Rattle.writing.specs.Put.{Put, listed}
 
 -- Two texts, one behind the other.
@@ -36,28 +35,6 @@ pub byte-past : (l : List ℕ) (at b : ℕ) → length l ≤ at → Put (b ∷ [
 byte-past l at b h = record { laid = sym (set-out l at b h); next = refl }
 
 -- ---- numbers
-
-pub spell-more : (n : ℕ) → 10 ≤ n → spell n ≡ spell (n / 10) ++ ((48 + n % 10) ∷ [])
-spell-more n h =
-    let e : n ≡ n / 10 * 10 + n % 10 = omega arith in
-    ap spell e ∙ spell-step (n / 10) (n % 10) (omega arith) (omega arith)
-
-length-spell-digit : (n : ℕ) → n < 10 → length (spell n) ≡ 1
-length-spell-digit n h = ap length (spell-digit n h)
-
-length-spell-more : (n : ℕ) → 10 ≤ n → length (spell n) ≡ length (spell (n / 10)) + 1
-length-spell-more n h = ap length (spell-more n h) ∙ length-append (spell (n / 10)) ((48 + n % 10) ∷ [])
-
--- A number below 10 to the d + 1 has at most d + 1 digits.
-pub length-spell : (d n : ℕ) → n < 10 ^ suc d → length (spell n) ≤ suc d
-length-spell zero n h = omega (arith, length-spell-digit n h)
-length-spell (suc d) n h = go (decLe 10 n) (λ k. length-spell d (n / 10) k)
-  where
-    go : Dec (10 ≤ n) → (n / 10 < 10 ^ suc d → length (spell (n / 10)) ≤ suc d) → length (spell n) ≤ suc (suc d)
-    go (no l) rest = omega (arith, length-spell-digit n (omega arith))
-    go (yes m) rest =
-        let p : 10 ^ suc (suc d) ≡ 10 ^ suc d * 10 = pow-suc 10 (suc d) in
-        omega (arith, length-spell-more n m, rest (omega arith))
 
 module _ (at n : ℕ) (room : at + length (spell n) < 2 ^ 64) where
   pub digit-room : n < 10 → at + 1 < 2 ^ 64

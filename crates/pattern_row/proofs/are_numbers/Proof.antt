@@ -1,7 +1,7 @@
 -- The loop keeps: all fields after the first four are numbers if those left are.
-use Rattle.pattern_row.specs.Fields.{areNumbers}
 use Rattle.pattern_line.specs.Line.{fieldsOf}
 use lib.ListN.{drop}
+use Rattle.numbers.specs.Listed.{areNumbers}
 use mathlib.Core.Path.{_≡_}
 use Prim.Native.Nat.{_≤_, _-_}
 use borrow.Author.Needs.{needs}

@@ -4,7 +4,7 @@ use lib.ListN.{length}
 use mathlib.Core.Path.{_≡_}
 use Prim.Native.Nat.{_≤_, _+_, _-_}
 use Rattle.text.specs.Split.{split}
-use Rattle.text.proofs.PartLaws.{partsFrom}
+use Rattle.fields.proofs.PartLaws.{partsFrom}
 use Rattle.log_line.specs.Header.{placeOf}
 use borrow.Author.Needs.{needs}
 use Rattle.log_line.proofs.header.place_of.Statement.{statement}

@@ -3,7 +3,7 @@ use lib.ListN.{length}
 use mathlib.Core.Path.{_≡_}
 use mathlib.Core.Bool.{false}
 use Prim.Native.Nat.{_≤_, _+_, _-_}
-use Rattle.log_line.specs.Step.{isNone}
+use Rattle.numbers.specs.Listed.{isNone}
 use Rattle.log_line.proofs.PredLaws.{Scanning}
 use borrow.Author.Needs.{needs}
 use Rattle.log_line.proofs.PredLaws.{scanning-kit}

@@ -1,0 +1,5 @@
+pub mod PlaceLaws
+pub mod FieldLaws
+pub mod FoundLaws
+pub mod PartLaws
+pub mod MarkLaws

@@ -1,0 +1,4 @@
+pub mod BufferLaws
+pub mod BufferFacts
+pub mod AcceptedLaws
+pub mod Listing

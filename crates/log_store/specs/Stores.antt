@@ -1,0 +1,21 @@
+-- The buffer with one step more.
+use Prim.Native.Nat.{ℕ, _+_}
+use mathlib.Core.Path.{_≡_}
+use mathlib.Core.List.{List, [], _∷_, _++_}
+use lib.ListN.{length, take, drop, set}
+use Rattle.log_line.specs.Limits.{labelsAt, boardAt, beginAt, linkAt, bufferLength}
+use Rattle.log_line.specs.Step.{Step, linkCount}
+use Rattle.log_store.specs.Buffer.{bufferOf}
+
+-- The numbers with the step count, step v's label set and board, and where the links of the next step begin.
+unfoldable pub valuesStored : List ℕ → ℕ → ℕ → ℕ → ℕ → List ℕ
+valuesStored old v labels board end = set (set (set (set old 0 (v + 1)) (labelsAt v) labels) (boardAt v) board) (beginAt (v + 1)) end
+
+-- The numbers with links after so many others.
+unfoldable pub linksStored : List ℕ → ℕ → List ℕ → List ℕ
+linksStored old before us = take (linkAt before) old ++ (us ++ drop (linkAt before + length us) old)
+
+-- The old numbers, where they are the buffer of steps before v with so many links, grow to the new by the step x.
+pub record StepStored (old : List ℕ) (v before : ℕ) (x : Step) (new : List ℕ) : Type 0 where
+  pub size : length new ≡ bufferLength
+  pub grown : (xs : List Step) → length xs ≡ v → linkCount xs ≡ before → old ≡ bufferOf xs → new ≡ bufferOf (xs ++ (x ∷ []))
