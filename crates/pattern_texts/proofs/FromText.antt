@@ -17,13 +17,13 @@ use Rattle.pattern_line.specs.Limits.{mostBeads, mostStates, mostLabels, ruleAt
 use Rattle.pattern_line.specs.Row.{Row, statesOf, allWithin}
 use Rattle.pattern.specs.Format.{Known}
 use Rattle.pattern.specs.Buffer.{ruleOfBead, acceptingOf, nextOf, bufferOf}
 use Rattle.pattern_buffer.specs.Meaning.{at, labelsIn, beadsIn}
 use Rattle.pattern_buffer.proofs.Places.{Bead, bead-in, Unused, Next, next-in, Passes}
-use Rattle.pattern_buffer.proofs.Rows.{rule-none, Found, found, missing, find}
-use Rattle.pattern_buffer.proofs.Ordered.{Told, told}
-use Rattle.pattern_buffer.proofs.NextSets.{within-out, single-out, not-ambiguous}
-use Rattle.pattern_buffer.proofs.Accepted.{Sound}
-use Rattle.pattern_buffer.proofs.Buffers.{rule-place, states-place, accepting-place, next-place}
+use Rattle.pattern_texts.proofs.Rows.{rule-none, Found, found, missing, find}
+use Rattle.pattern_texts.proofs.Ordered.{Told, told}
+use Rattle.pattern_texts.proofs.NextSets.{within-out, single-out, not-ambiguous}
+use Rattle.pattern_texts.proofs.Accepted.{Sound}
+use Rattle.pattern_texts.proofs.Buffers.{rule-place, states-place, accepting-place, next-place}
 
 -- ---- place by place
 

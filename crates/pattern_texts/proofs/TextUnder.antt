@@ -19,18 +19,18 @@ use Rattle.pattern_line.specs.Limits.{mostText, mostLine, mostStates, ruleAt, s
 use Rattle.pattern_line.specs.Row.{Row, statesOf, rowOf, malformed, disordered, misruled, allWithin, strays, ambiguous}
 use Rattle.pattern.specs.Format.{Known, judgeRow, judgeLine, patternFormat, judgeNext, conclude, patternText}
 use Rattle.lists.specs.Tables.{table}
 use Rattle.pattern_buffer.specs.Meaning.{at, labelsIn, beadsIn}
-use Rattle.pattern_buffer.specs.Spelled.{rowIn, rowsOfBead, rowsOfBeads, rowsOf, fieldsOf, rowLines, textUnder, Heads}
+use Rattle.pattern_texts.specs.Spelled.{rowIn, rowsOfBead, rowsOfBeads, rowsOf, fieldsOf, rowLines, textUnder, Heads}
 use Rattle.pattern_buffer.proofs.Places.{Passes, bead-there, next-there}
-use Rattle.pattern_buffer.proofs.Ordered.{Ordered, start, more}
-use Rattle.pattern_buffer.proofs.RowTests.{and-true, row-in}
-use Rattle.pattern_buffer.proofs.NextSets.{within-in, single-in, unambiguous}
-use Rattle.pattern_buffer.proofs.Accepted.{walk-nil, walk-cons, walk-step, accepted-same, known-more}
+use Rattle.pattern_texts.proofs.Ordered.{Ordered, start, more}
+use Rattle.pattern_texts.proofs.RowTests.{and-true, row-in}
+use Rattle.pattern_texts.proofs.NextSets.{within-in, single-in, unambiguous}
+use Rattle.pattern_texts.proofs.Accepted.{walk-nil, walk-cons, walk-step, accepted-same, known-more}
 use Rattle.lists.proofs.Tables.{length-table, getD-table}
-use Rattle.pattern_buffer.proofs.FromBuffer.{rows-out, states-again, row-there, known, rows-told, rows-ordered}
+use Rattle.pattern_texts.proofs.FromBuffer.{rows-out, states-again, row-there, known, rows-told, rows-ordered}
 use Rattle.text.proofs.Spelled.{split-parts, length-line, printable-joined, no-lines, next-line, lines-from}
 use Rattle.numbers.proofs.SpelledNumbers.{under-in}
-use Rattle.pattern_buffer.proofs.Spelling.{Readable, row-lacks, row-printable, row-again, row-well, row-length}
+use Rattle.pattern_texts.proofs.Spelling.{Readable, row-lacks, row-printable, row-again, row-well, row-length}
 
 -- ---- the lines of rows
 

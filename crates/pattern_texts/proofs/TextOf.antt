@@ -19,12 +19,12 @@ use Rattle.numbers.specs.Numbers.{spellIn}
 use Rattle.pattern_line.specs.Limits.{mostLine, mostLabels}
 use Rattle.pattern_line.specs.Header.{columns, sameFields, nameBytes, areNames, among, distinct, isHeader, labelCount}
 use Rattle.pattern.specs.Format.{patternText}
 use Rattle.pattern_buffer.specs.Meaning.{labelsIn}
-use Rattle.pattern_buffer.specs.Spelled.{namesUpTo, textOf, Heads}
+use Rattle.pattern_texts.specs.Spelled.{namesUpTo, textOf, Heads}
 use Rattle.pattern_buffer.proofs.Places.{Passes}
-use Rattle.pattern_buffer.proofs.RowTests.{and-true}
-use Rattle.pattern_buffer.proofs.FromBuffer.{known}
-use Rattle.pattern_buffer.proofs.TextUnder.{under-length, under-accepted}
+use Rattle.pattern_texts.proofs.RowTests.{and-true}
+use Rattle.pattern_texts.proofs.FromBuffer.{known}
+use Rattle.pattern_texts.proofs.TextUnder.{under-length, under-accepted}
 
 -- ---- the header, for each count of labels
 

@@ -18,11 +18,11 @@ use Rattle.log_store.specs.Accepted.{StepsFit, none, more}
 use Rattle.log_store.proofs.AcceptedLaws.{few-steps, few-links}
 use Rattle.log_store.proofs.BufferLaws.{count-end, count-more, links-end, links-more, length-begins, length-links}
 use Rattle.log_store.proofs.BufferFacts.{Holds, buffer-holds, holds-buffer, begins-at}
 use Rattle.log_buffer.specs.Meaning.{at, stepsIn, linksInto, logOf}
-use Rattle.log_buffer.specs.Spelled.{stepIn, stepsUpTo, stepsOf}
+use Rattle.log_texts.specs.Spelled.{stepIn, stepsUpTo, stepsOf}
 use Rattle.log_buffer.proofs.Sound.{Sound, begin, width, begin-next, begin-inside}
 use Rattle.log_buffer.proofs.Meaning.{labels-are, preds-are, preds-length, pred-at}
-use Rattle.log_buffer.proofs.StepLaws.{Linked, linked-out, linked-in, labelled-out, labelled-in, noStep, StepHolds, hold-fits, hold-at, Whole}
+use Rattle.log_texts.proofs.StepLaws.{Linked, linked-out, linked-in, labelled-out, labelled-in, noStep, StepHolds, hold-fits, hold-at, Whole}
 
 -- ---- where the links of each step begin, and which they are
 

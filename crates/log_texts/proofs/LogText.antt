@@ -21,10 +21,10 @@ use Rattle.numbers.specs.Listed.{isList}
 use Rattle.log_line.specs.Step.{Step, stepOf, malformed, misnumbered, linkCount}
 use Rattle.log_line.specs.Format.{Known, judgeValues, judgeStep, judgeLine, logFormat, conclude, logText}
 use Rattle.numbers.specs.Listed.{listWord}
-use Rattle.log_buffer.specs.Spelled.{fieldsOf, stepLines, headerLine}
+use Rattle.log_texts.specs.Spelled.{fieldsOf, stepLines, headerLine}
 use Rattle.log_store.proofs.AcceptedLaws.{few-steps, few-links}
 use Rattle.log_store.proofs.BufferLaws.{count-end, count-next, count-more}
-use Rattle.log_buffer.proofs.StepLaws.{linked-out, labelled-out, noStep, StepHolds, hold-at, Whole}
+use Rattle.log_texts.proofs.StepLaws.{linked-out, labelled-out, noStep, StepHolds, hold-at, Whole}
 use Rattle.text.proofs.Spelled.{AllLack, AllPrintable, weight, length-joined, length-line, split-parts, printable-joined, no-lines, lines-from}
 use Rattle.numbers.proofs.SpelledNumbers.{Under, under-in, under-more, spell-lacks, spell-printable, spell-is-number, spell-value, length-spell}
 use Rattle.numbers.proofs.ListedLaws.{word-list, word-reads, word-lacks, word-printable, word-length}

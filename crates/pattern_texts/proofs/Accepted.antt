@@ -15,8 +15,8 @@ use Rattle.pattern_line.specs.Limits.{mostLine, mostLabels, mostText}
 use Rattle.pattern_line.specs.Header.{columns, sameFields, areNames, distinct, isHeader, labelCount}
 use Rattle.pattern_line.specs.Row.{Row, rowOf, malformed, disordered, misruled, strays, ambiguous}
 use Rattle.pattern.specs.Format.{Known, judgeRow, judgeLine, patternFormat, judgeNext, conclude, patternText}
-use Rattle.pattern_buffer.proofs.Ordered.{origin, Ordered, start, more}
-use Rattle.pattern_buffer.proofs.RowTests.{and-true, last-positive, row-out, rule-most, labelled-out}
+use Rattle.pattern_texts.proofs.Ordered.{origin, Ordered, start, more}
+use Rattle.pattern_texts.proofs.RowTests.{and-true, last-positive, row-out, rule-most, labelled-out}
 
 -- ---- judgements that pass, outcomes that are accepted
 

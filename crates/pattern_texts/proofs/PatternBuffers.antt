@@ -9,15 +9,15 @@ use Rattle.text.specs.Walk.{accepted}
 use Rattle.pattern_line.specs.Limits.{bufferLength}
 use Rattle.pattern.specs.Format.{patternText}
 use Rattle.pattern.specs.Buffer.{bufferOf}
 use Rattle.pattern_buffer.specs.Meaning.{labelsIn}
 use Rattle.pattern_buffer.specs.Valid.{isPattern}
-use Rattle.pattern_buffer.specs.Given.{GivenPattern}
-use Rattle.pattern_buffer.specs.Spelled.{rowsOf, textOf}
+use Rattle.pattern_texts.specs.Given.{GivenPattern}
+use Rattle.pattern_texts.specs.Spelled.{rowsOf, textOf}
 use Rattle.pattern_buffer.proofs.Places.{passes-out, passes-in}
-use Rattle.pattern_buffer.proofs.Accepted.{text-out}
-use Rattle.pattern_buffer.proofs.FromText.{sound-passes}
-use Rattle.pattern_buffer.proofs.FromBuffer.{gives-back}
-use Rattle.pattern_buffer.proofs.TextOf.{text-accepted}
+use Rattle.pattern_texts.proofs.Accepted.{text-out}
+use Rattle.pattern_texts.proofs.FromText.{sound-passes}
+use Rattle.pattern_texts.proofs.FromBuffer.{gives-back}
+use Rattle.pattern_texts.proofs.TextOf.{text-accepted}
 
 -- The text spelled from a buffer that passes is accepted, with the buffer's label count and rows.
 pub text-reads : (b : List ℕ) → T (isPattern b) → patternText (textOf b) ≡ accepted (record { labels = labelsIn b; rows = rowsOf b })

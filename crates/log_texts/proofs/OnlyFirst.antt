@@ -13,13 +13,13 @@ use Rattle.sets.specs.Sets.{members}
 use Rattle.sets.proofs.Truth.{same}
 use Rattle.necklace.specs.Dag.{Dag}
 use Rattle.log_line.specs.Limits.{mostLabels, labelsAt, beginAt, linkAt, bufferLength}
 use Rattle.log_buffer.specs.Meaning.{at, stepsIn, linksInto, logOf}
 use Rattle.log_buffer.specs.Valid.{isLog}
-use Rattle.log_buffer.specs.Spelled.{stepsOf}
+use Rattle.log_texts.specs.Spelled.{stepsOf}
 use Rattle.log_buffer.proofs.Sound.{Sound, sound-iff, begin, begin-inside}
 use Rattle.log_buffer.proofs.Meaning.{size-is, labels-are, preds-are, labels-past, preds-past, preds-length, pred-at}
-use Rattle.log_buffer.proofs.StepPlaces.{steps-sound, places-whole}
-use Rattle.log_buffer.proofs.LogBuffers.{steps-give}
+use Rattle.log_texts.proofs.StepPlaces.{steps-sound, places-whole}
+use Rattle.log_texts.proofs.LogBuffers.{steps-give}
 
 passes-on : (count : ℕ) (b c : List ℕ) → take bufferLength b ≡ take bufferLength c → T (isLog count b) → T (isLog count c)
 passes-on count b c e t =

@@ -13,15 +13,15 @@ use Rattle.log_line.specs.Limits.{mostLabels, bufferLength}
 use Rattle.log_line.specs.Step.{Step}
 use Rattle.log_line.specs.Format.{Known, logText}
 use Rattle.log_store.specs.Buffer.{bufferOf}
 use Rattle.log_buffer.specs.Meaning.{logOf}
-use Rattle.log_buffer.specs.Given.{GivenLog}
+use Rattle.log_texts.specs.Given.{GivenLog}
 use Rattle.log_buffer.specs.Valid.{isLog}
-use Rattle.log_buffer.specs.Spelled.{stepsOf, textOf}
+use Rattle.log_texts.specs.Spelled.{stepsOf, textOf}
 use Rattle.log_buffer.proofs.Sound.{sound-iff}
 use Rattle.log_buffer.proofs.Meaning.{size-is}
-use Rattle.log_buffer.proofs.StepLaws.{noStep, accepted-whole}
-use Rattle.log_buffer.proofs.StepPlaces.{counted, steps-sound, labels-mean, preds-mean, places-whole, places-given}
-use Rattle.log_buffer.proofs.LogText.{known, text-accepted}
+use Rattle.log_texts.proofs.StepLaws.{noStep, accepted-whole}
+use Rattle.log_texts.proofs.StepPlaces.{counted, steps-sound, labels-mean, preds-mean, places-whole, places-given}
+use Rattle.log_texts.proofs.LogText.{known, text-accepted}
 
 -- A buffer that begins with what an accepted text gives passes, whatever follows, under any label count.
 pub given-passes : (count : ℕ) (b text : List ℕ) (k : Known) → logText count text ≡ accepted k → bufferLength ≤ length b

@@ -10,8 +10,8 @@ use lib.ListN.{length}
 use Rattle.pattern_line.specs.Limits.{mostBeads, mostStates}
 use Rattle.pattern_line.specs.Row.{Row, statesOf}
 use Rattle.pattern.specs.Buffer.{beadCount, ruleOfBead}
-use Rattle.pattern_buffer.proofs.Rows.{states-nil, states-append, states-here, states-other, rule-here, rule-other, rule-nil}
-use Rattle.pattern_buffer.proofs.Rows.{rule-found, rule-later, beads-nil, beads-snoc}
+use Rattle.pattern_texts.proofs.Rows.{states-nil, states-append, states-here, states-other, rule-here, rule-other, rule-nil}
+use Rattle.pattern_texts.proofs.Rows.{rule-found, rule-later, beads-nil, beads-snoc}
 
 -- What stands before the first row.
 abbrev pub origin : Row

@@ -16,7 +16,7 @@ use Rattle.numbers.specs.Numbers.{spell}
 use Rattle.numbers.proofs.SpelledNumbers.{spell-is-number, spell-value, spell-lacks, spell-printable, length-spell, Under, under-more}
 use Rattle.numbers.proofs.SpelledNumbers.{spells-lack, spells-printable, spells-numbers, spells-values, weight-spells}
 use Rattle.pattern_line.specs.Row.{Row, ruleOf, rowOf, malformed}
-use Rattle.pattern_buffer.specs.Spelled.{ruleWord, fieldsOf}
+use Rattle.pattern_texts.specs.Spelled.{ruleWord, fieldsOf}
 
 -- ---- a row's line
 

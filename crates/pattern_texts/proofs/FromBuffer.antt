@@ -21,12 +21,12 @@ use Rattle.pattern.specs.Format.{Known}
 use Rattle.lists.specs.Tables.{table}
 use Rattle.lists.proofs.Tables.{length-table, getD-table}
 use Rattle.pattern.specs.Buffer.{ruleOfBead, acceptingOf, nextOf, bufferOf}
 use Rattle.pattern_buffer.specs.Meaning.{at, labelsIn, beadsIn}
-use Rattle.pattern_buffer.specs.Spelled.{rowIn, rowsOfBead, rowsOfBeads, rowsOf}
+use Rattle.pattern_texts.specs.Spelled.{rowIn, rowsOfBead, rowsOfBeads, rowsOf}
 use Rattle.pattern_buffer.proofs.Places.{unused-out, states-fit, next-unused, Passes, bead-there}
-use Rattle.pattern_buffer.proofs.Rows.{states-nil, states-append, states-here, states-other, rule-none, Found, found, missing, find}
-use Rattle.pattern_buffer.proofs.Ordered.{origin, same-bead, next-bead, Fits, Ordered, start, more, Told, told}
-use Rattle.pattern_buffer.proofs.Buffers.{length-buffer, rule-place, states-place, accepting-place, next-place}
+use Rattle.pattern_texts.proofs.Rows.{states-nil, states-append, states-here, states-other, rule-none, Found, found, missing, find}
+use Rattle.pattern_texts.proofs.Ordered.{origin, same-bead, next-bead, Fits, Ordered, start, more, Told, told}
+use Rattle.pattern_texts.proofs.Buffers.{length-buffer, rule-place, states-place, accepting-place, next-place}
 
 -- ---- which rows there are
 

@@ -13,7 +13,7 @@ use Rattle.numbers.specs.Numbers.{isNumber, valueOf}
 use Rattle.pattern_line.specs.Limits.{mostBeads, mostStates}
 use Rattle.numbers.specs.Listed.{areNumbers}
 use Rattle.pattern_line.specs.Row.{Row, ruleOf, rowOf, malformed, followsLast, disordered, breaksTurns, misruled}
-use Rattle.pattern_buffer.proofs.Ordered.{Follows, same-bead, next-bead, Fits, Ordered, start, more, told}
+use Rattle.pattern_texts.proofs.Ordered.{Follows, same-bead, next-bead, Fits, Ordered, start, more, told}
 
 -- ---- tests as Bools
 
