@@ -25,7 +25,7 @@ use Rattle.pattern_rows.specs.Next.{statesOf, allWithin, allSingle}
 use Rattle.pattern_rows.specs.Format.{Known as PatternKnown, patternText}
 use Rattle.pattern_rows.specs.Buffer.{beadCount, ruleOfBead, acceptingOf, nextOf, bufferOf as patternBuffer}
 use Rattle.pattern_buffer.specs.Meaning.{beadsIn, patternOf}
-use Rattle.pattern_buffer.proofs.Buffers.{length-buffer}
+use Rattle.pattern_texts.proofs.Buffers.{length-buffer}
 use Rattle.log_line.specs.Limits.{boardAt, bufferLength as logLength}
 use Rattle.log_line.specs.Header.{placeOf}
 use Rattle.numbers.specs.Listed.{areNumbers}
@@ -33,7 +33,7 @@ use Rattle.log_line.specs.Step.{risingBelow, linkCount}
 use Rattle.log_line.specs.Format.{Known as LogKnown, logText}
 use Rattle.log_store.specs.Buffer.{begins, links, bufferOf as logBuffer}
 use Rattle.log_buffer.specs.Meaning.{at, stepsIn, logOf}
-use Rattle.log_buffer.proofs.LogBuffers.{given-passes}
+use Rattle.log_texts.proofs.LogBuffers.{given-passes}
 use Rattle.log_buffer.proofs.Meaning.{size-is, log-well-formed}
 use Rattle.necklace.specs.Dag.{Dag, WellFormed}
 use Rattle.necklace.specs.Past.{Alike, OnlyAdds}

@@ -19,13 +19,13 @@ use Rattle.pattern_line.specs.Limits.{mostLabels, bufferLength as patternLength
 use Rattle.log_line.specs.Limits.{bufferLength as logLength}
 use Rattle.pattern_buffer.specs.Meaning.{labelsIn}
 use Rattle.pattern_buffer.specs.Valid.{isPattern}
-use Rattle.pattern_buffer.specs.Given.{GivenPattern}
-use Rattle.pattern_buffer.proofs.PatternBuffers.{pattern-buffers}
+use Rattle.pattern_texts.specs.Given.{GivenPattern}
+use Rattle.pattern_texts.proofs.PatternBuffers.{pattern-buffers}
 use Rattle.pattern_buffer.proofs.Places.{passes-out}
 use Rattle.log_buffer.specs.Valid.{isLog}
 use Rattle.log_buffer.specs.Meaning.{stepsIn}
-use Rattle.log_buffer.specs.Given.{GivenLog}
-use Rattle.log_buffer.proofs.LogBuffers.{log-buffers}
+use Rattle.log_texts.specs.Given.{GivenLog}
+use Rattle.log_texts.proofs.LogBuffers.{log-buffers}
 use Rattle.log_buffer.proofs.Sound.{sound-iff}
 use Rattle.log_buffer.proofs.Meaning.{size-is}
 use Rattle.judging.specs.Limits.{resultLength, workLength, rowLength}

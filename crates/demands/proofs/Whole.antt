@@ -17,10 +17,10 @@ use Rattle.log_line.specs.Format.{Known as LogKnown, logText}
 use Rattle.log_store.specs.Buffer.{bufferOf as logBuffer}
 use Rattle.pattern_buffer.specs.Meaning.{labelsIn, patternOf}
 use Rattle.pattern_buffer.specs.Valid.{isPattern}
-use Rattle.pattern_buffer.proofs.PatternBuffers.{pattern-buffers}
+use Rattle.pattern_texts.proofs.PatternBuffers.{pattern-buffers}
 use Rattle.log_buffer.specs.Meaning.{logOf}
 use Rattle.log_buffer.specs.Valid.{isLog}
-use Rattle.log_buffer.proofs.LogBuffers.{given-passes}
+use Rattle.log_texts.proofs.LogBuffers.{given-passes}
 use Rattle.necklace.specs.Compute.{row}
 use Rattle.judging.specs.Limits.{resultLength, workLength}
 use Rattle.judging.specs.Judge.{patternIn, logIn, judgeAnswer, accepts, resultAfter, rowIn}

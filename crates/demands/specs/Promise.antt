@@ -11,8 +11,8 @@ use Rattle.necklace.specs.Necklace.{IsRow}
 use Rattle.pattern_line.specs.Limits.{bufferLength as patternLength}
 use Rattle.log_line.specs.Limits.{bufferLength as logLength}
 use Rattle.pattern_buffer.specs.Meaning.{labelsIn}
-use Rattle.pattern_buffer.specs.Given.{GivenPattern}
-use Rattle.log_buffer.specs.Given.{GivenLog}
+use Rattle.pattern_texts.specs.Given.{GivenPattern}
+use Rattle.log_texts.specs.Given.{GivenLog}
 use Rattle.judging.specs.Limits.{resultLength, workLength, rowLength}
 use Rattle.judging.specs.Judge.{patternIn, logIn, rowIn}
 use Rattle.demands.specs.Demands.{rowsWithBit}

@@ -102,9 +102,9 @@ fn judge_fit(pattern: &[u16], log: &[u16], result: &mut [u16], work: &mut [u16])
     ensures { λ _. ⌜ now (result .exit) ≡ fitResult (now (pattern .entry)) (now (log .entry)) (now (result .entry)) ⌝ }
     ensures { λ _. ⌜ now (work .exit) ≡ fitWork (now (pattern .entry)) (now (log .entry)) (now (work .entry)) ⌝ }
 {
-    let known = pattern_buffer::is_pattern(pattern);
+    let known = pattern_test::is_pattern(pattern);
     if known {
-        let fits = log_buffer::is_log(log, pattern[0]);
+        let fits = log_test::is_log(log, pattern[0]);
         if fits {
             return answer::accepted(judge_tried(pattern, log, result, work));
         }

@@ -1,8 +1,3 @@
 pub mod TestLaws
 pub mod Sound
 pub mod Meaning
-pub mod StepLaws
-pub mod StepPlaces
-pub mod LogText
-pub mod LogBuffers
-pub mod OnlyFirst

@@ -1,4 +1,2 @@
 pub mod Meaning
-pub mod Given
 pub mod Valid
-pub mod Spelled

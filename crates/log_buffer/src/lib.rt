@@ -1,13 +1,13 @@
-// Is a buffer one that an accepted log text gives under a label count? The judge asks before it reads a log buffer.
-// The length comes first, then each place in turn; no number of the buffer is used as a place before it has been looked at.
+// The places and the links of a log buffer: are they those that an accepted log text gives?
+// No number of the buffer is used as a place before it has been looked at.
 ghost use mathlib.Core.Path.{_≡_};
 ghost use Prim.Native.Nat.{_<_, _≤_, _+_};
 ghost use mathlib.Core.Bool.{true};
 ghost use lib.ListN.{length};
-ghost use Rattle.sets.specs.Sets.{allBelow, within};
+ghost use Rattle.sets.specs.Sets.{allBelow};
 ghost use Rattle.log_line.specs.Limits.{bufferLength, mostSteps, mostLinks, beginAt};
 ghost use Rattle.log_buffer.specs.Meaning.{at, stepsIn};
-ghost use Rattle.log_buffer.specs.Valid.{valuesOk, beginOk, linkOk, linksOk, restOk, graphOk, isLog};
+ghost use Rattle.log_buffer.specs.Valid.{beginOk, linkOk, linksOk, restOk, graphOk};
 
 fn wide(x: u16) -> usize
     ensures { λ r. ⌜ r ≡ x ⌝ }
@@ -16,59 +16,11 @@ fn wide(x: u16) -> usize
 }
 
 // The number at a place, as a place or a count.
-fn number_at(buffer: &[u16], i: usize) -> usize
+pub fn number_at(buffer: &[u16], i: usize) -> usize
     requires { ⌜ i < length (now buffer) ⌝ }
     ensures { λ r. ⌜ r ≡ at (now (buffer .entry)) i ⌝ }
 {
     wide(buffer[i])
-}
-
-// Is every label of s below the label count? It is where a u16 cannot have others.
-fn labels_ok(s: u16, labels: u16) -> bool
-    ensures { λ r. ⌜ r ≡ within labels s ⌝ }
-{
-    if labels > 16 {
-        return true;
-    }
-    sets::within(s, labels)
-}
-
-// The label set and the board of step v; zeros past the last step.
-fn values_ok(buffer: &[u16], labels: u16, v: usize) -> bool
-    requires { ⌜ bufferLength ≤ length (now buffer) ⌝ }
-    requires { ⌜ v < 1024 ⌝ }
-    ensures { λ r. ⌜ r ≡ valuesOk labels (now (buffer .entry)) v ⌝ }
-{
-    let s = buffer[1 + v];
-    let board = buffer[1025 + v];
-    if v >= number_at(buffer, 0) {
-        if s != 0 {
-            return false;
-        }
-        return board == 0;
-    }
-    if board > 255 {
-        return false;
-    }
-    if v == 0 {
-        return s == 0;
-    }
-    labels_ok(s, labels)
-}
-
-// The label sets and the boards of all steps.
-fn all_values(buffer: &[u16], labels: u16) -> bool
-    requires { ⌜ bufferLength ≤ length (now buffer) ⌝ }
-    ensures { λ r. ⌜ r ≡ allBelow 1024 (valuesOk labels (now (buffer .entry))) ⌝ }
-{
-    let mut v = 0;
-    while v < 1024 {
-        if !values_ok(buffer, labels, v) {
-            return false;
-        }
-        v += 1;
-    }
-    true
 }
 
 // Where the links of the step after v begin: 1 to 8 places after those of v, and for step 0 at the same; zeros past the last step.
@@ -192,7 +144,7 @@ fn all_rest(buffer: &[u16]) -> bool
 }
 
 // The links' places, then the links.
-fn graph_ok(buffer: &[u16]) -> bool
+pub fn graph_ok(buffer: &[u16]) -> bool
     requires { ⌜ bufferLength ≤ length (now buffer) ⌝ }
     requires { ⌜ stepsIn (now buffer) ≤ mostSteps ⌝ }
     ensures { λ r. ⌜ r ≡ graphOk (now (buffer .entry)) ⌝ }
@@ -210,24 +162,4 @@ fn graph_ok(buffer: &[u16]) -> bool
         return false;
     }
     all_rest(buffer)
-}
-
-// The judge's test of a log buffer, under the pattern's label count.
-pub fn is_log(buffer: &[u16], labels: u16) -> bool
-    ensures { λ r. ⌜ r ≡ isLog labels (now (buffer .entry)) ⌝ }
-{
-    if buffer.len() < 7170 {
-        return false;
-    }
-    let steps = number_at(buffer, 0);
-    if steps < 1 {
-        return false;
-    }
-    if steps > 1024 {
-        return false;
-    }
-    if !all_values(buffer, labels) {
-        return false;
-    }
-    graph_ok(buffer)
 }

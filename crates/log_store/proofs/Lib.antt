@@ -1,4 +1,5 @@
 pub mod BufferLaws
 pub mod BufferFacts
 pub mod AcceptedLaws
+pub mod LineLaws
 pub mod Listing

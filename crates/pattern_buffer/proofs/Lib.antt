@@ -3,15 +3,3 @@ pub mod TestLaws
 pub mod OneNext
 pub mod Meaning
 pub mod Front
-pub mod Rows
-pub mod Ordered
-pub mod RowTests
-pub mod NextSets
-pub mod Accepted
-pub mod Buffers
-pub mod FromText
-pub mod FromBuffer
-pub mod Spelling
-pub mod TextUnder
-pub mod TextOf
-pub mod PatternBuffers

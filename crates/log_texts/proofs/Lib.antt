@@ -1,0 +1,5 @@
+pub mod StepLaws
+pub mod StepPlaces
+pub mod LogText
+pub mod LogBuffers
+pub mod OnlyFirst

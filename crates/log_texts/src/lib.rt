@@ -1,0 +1,1 @@
+// Theorems about the buffers that log texts give: no code.

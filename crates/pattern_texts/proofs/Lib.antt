@@ -1,0 +1,12 @@
+pub mod Rows
+pub mod Ordered
+pub mod RowTests
+pub mod NextSets
+pub mod Accepted
+pub mod Buffers
+pub mod FromText
+pub mod FromBuffer
+pub mod Spelling
+pub mod TextUnder
+pub mod TextOf
+pub mod PatternBuffers

@@ -1,0 +1,1 @@
+// Theorems about the buffers that pattern texts give: no code.
