@@ -21,9 +21,9 @@ use Rattle.pattern_line.specs.Limits.{ruleAt, bufferLength as patternLength}
 use Rattle.pattern_header.specs.Header.{sameFields, nameBytes, areNames, among, distinct}
 use Rattle.pattern_row.specs.Fields.{areNumbers as areNumbersIn}
 use Rattle.pattern_order.specs.Row.{followsLast, breaksTurns}
-use Rattle.pattern_rows.specs.Next.{statesOf, allWithin, allSingle}
-use Rattle.pattern_rows.specs.Format.{Known as PatternKnown, patternText}
-use Rattle.pattern_rows.specs.Buffer.{beadCount, ruleOfBead, acceptingOf, nextOf, bufferOf as patternBuffer}
+use Rattle.pattern_store.specs.Next.{statesOf, allWithin, allSingle}
+use Rattle.pattern_store.specs.Format.{Known as PatternKnown, patternText}
+use Rattle.pattern_store.specs.Buffer.{beadCount, ruleOfBead, acceptingOf, nextOf, bufferOf as patternBuffer}
 use Rattle.pattern_buffer.specs.Meaning.{beadsIn, patternOf}
 use Rattle.pattern_texts.proofs.Buffers.{length-buffer}
 use Rattle.log_line.specs.Limits.{boardAt, bufferLength as logLength}

@@ -11,8 +11,8 @@ use Rattle.answer.specs.Answers.{acceptedWith}
 use Rattle.text.specs.Walk.{accepted}
 use Rattle.pattern_line.specs.Limits.{bufferLength as patternLength}
 use Rattle.log_line.specs.Limits.{bufferLength as logLength}
-use Rattle.pattern_rows.specs.Format.{Known as PatternKnown, patternText}
-use Rattle.pattern_rows.specs.Buffer.{bufferOf as patternBuffer}
+use Rattle.pattern_store.specs.Format.{Known as PatternKnown, patternText}
+use Rattle.pattern_store.specs.Buffer.{bufferOf as patternBuffer}
 use Rattle.log_line.specs.Format.{Known as LogKnown, logText}
 use Rattle.log_store.specs.Buffer.{bufferOf as logBuffer}
 use Rattle.pattern_buffer.specs.Meaning.{labelsIn, patternOf}

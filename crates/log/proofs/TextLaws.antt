@@ -22,15 +22,15 @@ use Rattle.log_line.specs.Header.{columnsOf}
 use Rattle.log_line.specs.Format.{Known, judgeHeader, judgeLine, logFormat, conclude, logText}
 use Rattle.log_line.specs.Answers.{refusalNumber, headerNumber, headerValues, orderOf, headerSays}
 use Rattle.log.specs.Answer.{logAnswer, logAfter}
-use Rattle.log_steps.specs.Filled.{answerOf, filledBy}
-use Rattle.log_steps.specs.Reading.{stepsRead}
+use Rattle.log_walk.specs.Filled.{answerOf, filledBy}
+use Rattle.log_walk.specs.Reading.{stepsRead}
 use Rattle.log_store.specs.Stores.{knowing}
 use Rattle.log_line.specs.declared.refusals.Refusal.{Refusal}
 use Rattle.log_line.specs.declared.header.ColumnOrder.{ColumnOrder}
 use Rattle.log_line.specs.declared.header.HeaderAnswer.{HeaderAnswer}
 use Rattle.log_line.specs.declared.header.HeaderAnswer.the-variants.{Columns as Ordered, Refused as Unordered}
 use Rattle.log_store.proofs.LineLaws.{number-some}
-use Rattle.log_steps.proofs.ReadLaws.{not-whole}
+use Rattle.log_walk.proofs.ReadLaws.{not-whole}
 
 -- ---- what an outcome gives
 

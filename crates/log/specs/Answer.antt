@@ -8,7 +8,7 @@ use Rattle.answer.specs.declared.Answer.{Answer}
 use Rattle.answer.specs.Answers.{refusedAt}
 use Rattle.log_line.specs.Limits.{mostLabels, bufferLength}
 use Rattle.log_line.specs.Format.{logText}
-use Rattle.log_steps.specs.Filled.{answerOf, filledBy}
+use Rattle.log_walk.specs.Filled.{answerOf, filledBy}
 
 -- 5: the label count is not 1 to 16.
 abbrev pub badCount : ℕ → Bool

@@ -4,13 +4,13 @@ ghost use Prim.Native.Nat.{_≤_};
 ghost use lib.ListN.{length};
 ghost use Rattle.log_line.specs.Format.{logText};
 ghost use Rattle.log.specs.Answer.{logAnswer, logAfter};
-ghost use Rattle.log_steps.specs.Filled.{answerOf, filledBy};
+ghost use Rattle.log_walk.specs.Filled.{answerOf, filledBy};
 use answer::Answer;
 use log_line::header::HeaderAnswer;
 use log_line::header::read_header;
 use log_line::refusals::Refusal;
 use log_line::refusals::number_of;
-use log_steps::read_steps;
+use log_walk::read_steps;
 use text::lines::Line;
 use text::lines::read_line;
 

@@ -13,10 +13,10 @@ use Rattle.pattern_line.specs.Limits.{mostLine, mostText}
 use Rattle.pattern_header.specs.Header.{isHeader, labelCount}
 use Rattle.pattern_order.specs.Row.{disordered, misruled}
 use Rattle.pattern_row.specs.Fields.{rowOf, malformed}
-use Rattle.pattern_rows.specs.Format.{Known, judgeHeader, judgeRow, judgeLine, patternFormat}
+use Rattle.pattern_store.specs.Format.{Known, judgeHeader, judgeRow, judgeLine, patternFormat}
 use Rattle.pattern_late.proofs.LateLaws.{walk-none, walk-one}
-use Rattle.pattern_rows.proofs.RowsLaws.{Sound, sound-none}
-use Rattle.pattern_lines.proofs.JudgedLaws.{is-header-few, row-sound}
+use Rattle.pattern_store.proofs.RowsLaws.{Sound, sound-none}
+use Rattle.pattern_walk.proofs.JudgedLaws.{is-header-few, row-sound}
 
 record Passed (k t : Known) : Type 0 where
   labels : t .labels ≡ k .labels

@@ -14,24 +14,24 @@ use Rattle.text.specs.Walk.{Outcome, accepted, faulty, walk, readText}
 use Rattle.sets.specs.Sets.{setOf}
 use Rattle.pattern_line.specs.Limits.{bufferLength}
 use Rattle.pattern_order.specs.Row.{Row}
-use Rattle.pattern_rows.specs.Next.{statesOf}
-use Rattle.pattern_rows.specs.Format.{Known, judgeNext, patternFormat, conclude, patternText}
-use Rattle.pattern_rows.specs.Buffer.{beadCount, ruleOfBead, acceptingOf, nextOf, bufferOf}
+use Rattle.pattern_store.specs.Next.{statesOf}
+use Rattle.pattern_store.specs.Format.{Known, judgeNext, patternFormat, conclude, patternText}
+use Rattle.pattern_store.specs.Buffer.{beadCount, ruleOfBead, acceptingOf, nextOf, bufferOf}
 use Rattle.pattern.specs.Answer.{answerOf, filledBy, patternAnswer, patternAfter}
 use Rattle.pattern_line.specs.Answers.{refusalNumber}
 use Rattle.pattern_late.specs.Late.{Bounded, lateFaults, lateSaid}
-use Rattle.pattern_lines.specs.Reading.{HeaderRead, FirstTold, FirstRead, LinesRead, RowsTold, RowsRead}
+use Rattle.pattern_walk.specs.Reading.{HeaderRead, FirstTold, FirstRead, LinesRead, RowsTold, RowsRead}
 use Rattle.pattern.specs.Reading.{textSaid, counted, concluded, beadsOf, TextRead}
 use Rattle.pattern_line.specs.declared.refusals.Refusal.{Refusal}
 use Rattle.pattern_late.specs.declared.LateAnswer.{LateAnswer}
 use Rattle.pattern_late.specs.declared.LateAnswer.the-variants.{Fine, Refused as LateRefused}
-use Rattle.pattern_lines.specs.declared.FirstAnswer.{FirstAnswer}
-use Rattle.pattern_lines.specs.declared.FirstAnswer.the-variants.{Labels, Refused as FirstRefused}
-use Rattle.pattern_lines.specs.declared.RowsAnswer.{RowsAnswer}
-use Rattle.pattern_lines.specs.declared.RowsAnswer.the-variants.{Stored, Refused as RowsRefused}
+use Rattle.pattern_walk.specs.declared.FirstAnswer.{FirstAnswer}
+use Rattle.pattern_walk.specs.declared.FirstAnswer.the-variants.{Labels, Refused as FirstRefused}
+use Rattle.pattern_walk.specs.declared.RowsAnswer.{RowsAnswer}
+use Rattle.pattern_walk.specs.declared.RowsAnswer.the-variants.{Stored, Refused as RowsRefused}
 use Rattle.pattern.specs.declared.reading.TextAnswer.{TextAnswer}
 use Rattle.pattern.specs.declared.reading.TextAnswer.the-variants.{Beads, Refused as TextRefused}
-use Rattle.pattern_rows.proofs.BufferLaws.{Holds, buffer-holds, holds-buffer}
+use Rattle.pattern_store.proofs.BufferLaws.{Holds, buffer-holds, holds-buffer}
 use Rattle.pattern_late.proofs.SlotLaws.{outcomeAs, late-rows, bounded}
 use Rattle.pattern.proofs.AcceptedLaws.{Accepted, lines-accepted}
 

@@ -8,8 +8,8 @@ use Rattle.answer.specs.declared.Answer.{Answer}
 use Rattle.answer.specs.Answers.{acceptedWith, refusedAt}
 use Rattle.text.specs.Walk.{Outcome, accepted, faulty}
 use Rattle.pattern_line.specs.Limits.{bufferLength}
-use Rattle.pattern_rows.specs.Format.{Known, patternText}
-use Rattle.pattern_rows.specs.Buffer.{beadCount, bufferOf}
+use Rattle.pattern_store.specs.Format.{Known, patternText}
+use Rattle.pattern_store.specs.Buffer.{beadCount, bufferOf}
 
 -- The answer: accepted with the bead count, or the refusal's number and line.
 abbrev pub answerOf : Outcome Known → Answer

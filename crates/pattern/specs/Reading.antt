@@ -6,8 +6,8 @@ use mathlib.Core.List.{List}
 use lib.Dec.{eqb}
 use lib.ListN.{getD}
 use Rattle.text.specs.Walk.{Outcome, accepted, faulty}
-use Rattle.pattern_rows.specs.Format.{Known, patternText}
-use Rattle.pattern_rows.specs.Buffer.{beadCount, bufferOf}
+use Rattle.pattern_store.specs.Format.{Known, patternText}
+use Rattle.pattern_store.specs.Buffer.{beadCount, bufferOf}
 use Rattle.pattern_line.specs.Answers.{refusalNumber}
 use Rattle.pattern_late.specs.Late.{lateFaults}
 use Rattle.pattern.specs.declared.reading.TextAnswer.{TextAnswer}

@@ -1,17 +1,17 @@
 // The whole text: its lines, then what needs all of them.
 ghost use mathlib.Core.Path.{_≡_};
 ghost use mathlib.Core.List.{[]};
-ghost use Rattle.pattern_rows.specs.Buffer.{bufferOf};
+ghost use Rattle.pattern_store.specs.Buffer.{bufferOf};
 ghost use Rattle.pattern_late.specs.Late.{Bounded};
-ghost use Rattle.pattern_lines.specs.Reading.{HeaderRead};
+ghost use Rattle.pattern_walk.specs.Reading.{HeaderRead};
 ghost use Rattle.pattern.specs.Reading.{textSaid, concluded, TextRead};
 use pattern_late::LateAnswer;
 use pattern_late::find_late;
 use pattern_line::refusals::Refusal;
-use pattern_lines::FirstAnswer;
-use pattern_lines::RowsAnswer;
-use pattern_lines::read_first;
-use pattern_lines::read_rows;
+use pattern_walk::FirstAnswer;
+use pattern_walk::RowsAnswer;
+use pattern_walk::read_first;
+use pattern_walk::read_rows;
 
 // How many beads the text has, or the refusal and its line.
 pub enum TextAnswer {

@@ -9,7 +9,7 @@ use borrow.Author.Tests.{eq-eqb, ne-eqb, lt-ltb, le-ltb}
 use lib.ListN.{length, getD, take, drop}
 use Rattle.sets.specs.Sets.{within, single, consIf}
 use Rattle.text.specs.Walk.{Judged, refused, passed, Outcome, accepted, faulty, proceed, walk}
-use Rattle.pattern_rows.specs.Next.{allWithin, allSingle}
+use Rattle.pattern_store.specs.Next.{allWithin, allSingle}
 use Rattle.pattern_line.specs.Answers.{refusalNumber}
 use Rattle.pattern_late.specs.Late.{Bounded, setsAt, judgeSlot, hasState, slotsFrom, lateFaults, slotSaid}
 use Rattle.pattern_line.specs.declared.refusals.Refusal.{Refusal}

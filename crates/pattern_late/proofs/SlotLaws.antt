@@ -12,13 +12,13 @@ use lib.Seq.{getD-take, getD-drop, ext-getD}
 use Rattle.sets.specs.Sets.{consIf}
 use Rattle.text.specs.Walk.{Judged, refused, passed, Outcome, accepted, faulty, proceed, walk}
 use Rattle.pattern_order.specs.Row.{Row}
-use Rattle.pattern_rows.specs.Next.{statesOf, allWithin, allSingle}
-use Rattle.pattern_rows.specs.Format.{Known, judgeNext}
-use Rattle.pattern_rows.specs.Buffer.{ruleOfBead, isAt}
+use Rattle.pattern_store.specs.Next.{statesOf, allWithin, allSingle}
+use Rattle.pattern_store.specs.Format.{Known, judgeNext}
+use Rattle.pattern_store.specs.Buffer.{ruleOfBead, isAt}
 use Rattle.pattern_late.specs.Late.{Bounded, setsAt, judgeSlot, hasState, slotsFrom, lateFaults}
 use Rattle.pattern_late.proofs.LateLaws.{walk-none, walk-one}
-use Rattle.pattern_rows.proofs.RowsLaws.{hasRow, AllOf, all-map, Placed, slotOf, Ascends, Sound}
-use Rattle.pattern_rows.proofs.BufferLaws.{Holds}
+use Rattle.pattern_store.proofs.RowsLaws.{hasRow, AllOf, all-map, Placed, slotOf, Ascends, Sound}
+use Rattle.pattern_store.proofs.BufferLaws.{Holds}
 
 -- ---- which slots there are
 

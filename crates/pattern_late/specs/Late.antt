@@ -8,7 +8,7 @@ use lib.ListN.{length, getD, take, drop}
 use Rattle.sets.specs.Sets.{consIf}
 use Rattle.text.specs.Walk.{Judged, refused, passed, Outcome, accepted, faulty, walk}
 use Rattle.pattern_line.specs.Limits.{ruleAt, statesAt, bufferLength}
-use Rattle.pattern_rows.specs.Next.{allWithin, allSingle}
+use Rattle.pattern_store.specs.Next.{allWithin, allSingle}
 use Rattle.pattern_line.specs.Answers.{refusalNumber}
 use Rattle.pattern_late.specs.declared.SlotAnswer.{SlotAnswer}
 use Rattle.pattern_late.specs.declared.SlotAnswer.the-variants.{Fine as SlotFine, Refused as SlotRefused}

@@ -2,7 +2,7 @@
 // The slot 16 j + q belongs to the state q of the bead with place j.
 ghost use mathlib.Core.Path.{_≡_};
 ghost use Prim.Native.Nat.{_≤_, _<_};
-ghost use Rattle.pattern_rows.specs.Next.{allWithin, allSingle};
+ghost use Rattle.pattern_store.specs.Next.{allWithin, allSingle};
 ghost use Rattle.pattern_late.specs.Late.{Bounded, slotSaid, judgeSlot, lateSaid, lateFaults};
 use pattern_line::refusals::Refusal;
 

@@ -15,8 +15,8 @@ use Rattle.pattern_line.specs.Limits.{mostLine, mostLabels, mostText}
 use Rattle.pattern_header.specs.Header.{columns, sameFields, areNames, distinct, isHeader, labelCount}
 use Rattle.pattern_order.specs.Row.{Row, disordered, misruled}
 use Rattle.pattern_row.specs.Fields.{rowOf, malformed}
-use Rattle.pattern_rows.specs.Next.{strays, ambiguous}
-use Rattle.pattern_rows.specs.Format.{Known, judgeRow, judgeLine, patternFormat, judgeNext, conclude, patternText}
+use Rattle.pattern_store.specs.Next.{strays, ambiguous}
+use Rattle.pattern_store.specs.Format.{Known, judgeRow, judgeLine, patternFormat, judgeNext, conclude, patternText}
 use Rattle.pattern_texts.proofs.Ordered.{origin, Ordered, start, more}
 use Rattle.pattern_texts.proofs.RowTests.{and-true, last-positive, row-out, rule-most, labelled-out}
 

@@ -9,11 +9,11 @@ use lib.ListN.{length, getD, length-append, List·getD-append}
 use lib.Seq.{getD-append-add, getD-at}
 use Rattle.sets.specs.Sets.{setOf}
 use Rattle.pattern_line.specs.Limits.{mostBeads, mostStates, mostLabels, ruleAt, statesAt, acceptingAt, nextAt, bufferLength}
-use Rattle.pattern_rows.specs.Next.{statesOf}
-use Rattle.pattern_rows.specs.Format.{Known}
+use Rattle.pattern_store.specs.Next.{statesOf}
+use Rattle.pattern_store.specs.Format.{Known}
 use Rattle.lists.specs.Tables.{table}
 use Rattle.lists.proofs.Tables.{length-table, getD-table}
-use Rattle.pattern_rows.specs.Buffer.{beadCount, ruleOfBead, acceptingOf, nextOf, bufferOf}
+use Rattle.pattern_store.specs.Buffer.{beadCount, ruleOfBead, acceptingOf, nextOf, bufferOf}
 use Rattle.pattern_buffer.specs.Meaning.{at}
 
 -- ---- tables

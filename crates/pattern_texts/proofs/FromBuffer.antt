@@ -17,11 +17,11 @@ use Rattle.sets.proofs.Truth.{no-false}
 use Rattle.sets.proofs.Laws.{ext, setOf-below, member-setOf, below-within}
 use Rattle.pattern_line.specs.Limits.{mostBeads, mostStates, mostLabels, ruleAt, statesAt, acceptingAt, nextAt, bufferLength}
 use Rattle.pattern_order.specs.Row.{Row}
-use Rattle.pattern_rows.specs.Next.{statesOf}
-use Rattle.pattern_rows.specs.Format.{Known}
+use Rattle.pattern_store.specs.Next.{statesOf}
+use Rattle.pattern_store.specs.Format.{Known}
 use Rattle.lists.specs.Tables.{table}
 use Rattle.lists.proofs.Tables.{length-table, getD-table}
-use Rattle.pattern_rows.specs.Buffer.{ruleOfBead, acceptingOf, nextOf, bufferOf}
+use Rattle.pattern_store.specs.Buffer.{ruleOfBead, acceptingOf, nextOf, bufferOf}
 use Rattle.pattern_buffer.specs.Meaning.{at, labelsIn, beadsIn}
 use Rattle.pattern_texts.specs.Spelled.{rowIn, rowsOfBead, rowsOfBeads, rowsOf}
 use Rattle.pattern_buffer.proofs.Places.{unused-out, states-fit, next-unused, Passes, bead-there}

@@ -15,9 +15,9 @@ use Rattle.sets.proofs.Truth.{false-no}
 use Rattle.sets.proofs.Laws.{within-below, setOf-above, member-setOf}
 use Rattle.pattern_line.specs.Limits.{mostBeads, mostStates, mostLabels, ruleAt, statesAt, acceptingAt, nextAt, bufferLength}
 use Rattle.pattern_order.specs.Row.{Row}
-use Rattle.pattern_rows.specs.Next.{statesOf, allWithin}
-use Rattle.pattern_rows.specs.Format.{Known}
-use Rattle.pattern_rows.specs.Buffer.{ruleOfBead, acceptingOf, nextOf, bufferOf}
+use Rattle.pattern_store.specs.Next.{statesOf, allWithin}
+use Rattle.pattern_store.specs.Format.{Known}
+use Rattle.pattern_store.specs.Buffer.{ruleOfBead, acceptingOf, nextOf, bufferOf}
 use Rattle.pattern_buffer.specs.Meaning.{at, labelsIn, beadsIn}
 use Rattle.pattern_buffer.proofs.Places.{Bead, bead-in, Unused, Next, next-in, Passes}
 use Rattle.pattern_texts.proofs.Rows.{rule-none, Found, found, missing, find}

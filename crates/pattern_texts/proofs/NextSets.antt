@@ -10,7 +10,7 @@ use lib.ListN.{length, getD}
 use Rattle.sets.specs.Sets.{within, single}
 use Rattle.sets.proofs.Truth.{yes-true, true-yes}
 use Rattle.pattern_order.specs.Row.{Row}
-use Rattle.pattern_rows.specs.Next.{allWithin, allSingle, ambiguous}
+use Rattle.pattern_store.specs.Next.{allWithin, allSingle, ambiguous}
 use Rattle.pattern_texts.proofs.RowTests.{and-true}
 
 pub within-out : (n : ℕ) (ss : List ℕ) → allWithin n ss ≡ true → (a : ℕ) → a < length ss → getD ss a 0 < 2 ^ n

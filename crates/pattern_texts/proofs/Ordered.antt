@@ -9,8 +9,8 @@ use native.Mathlib.Omega.{arith}
 use lib.ListN.{length}
 use Rattle.pattern_line.specs.Limits.{mostBeads, mostStates}
 use Rattle.pattern_order.specs.Row.{Row}
-use Rattle.pattern_rows.specs.Next.{statesOf}
-use Rattle.pattern_rows.specs.Buffer.{beadCount, ruleOfBead}
+use Rattle.pattern_store.specs.Next.{statesOf}
+use Rattle.pattern_store.specs.Buffer.{beadCount, ruleOfBead}
 use Rattle.pattern_texts.proofs.Rows.{states-nil, states-append, states-here, states-other, rule-here, rule-other, rule-nil, rule-found, rule-later, beads-nil, beads-snoc}
 
 -- What stands before the first row.

@@ -7,8 +7,8 @@ use lib.Dec.{T}
 use lib.ListN.{take}
 use Rattle.text.specs.Walk.{accepted}
 use Rattle.pattern_line.specs.Limits.{bufferLength}
-use Rattle.pattern_rows.specs.Format.{patternText}
-use Rattle.pattern_rows.specs.Buffer.{bufferOf}
+use Rattle.pattern_store.specs.Format.{patternText}
+use Rattle.pattern_store.specs.Buffer.{bufferOf}
 use Rattle.pattern_buffer.specs.Meaning.{labelsIn}
 use Rattle.pattern_buffer.specs.Valid.{isPattern}
 use Rattle.pattern_texts.specs.Given.{GivenPattern}

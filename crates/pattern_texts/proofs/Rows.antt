@@ -9,8 +9,8 @@ use borrow.Author.Tests.{eq-eqb, ne-eqb, eqb-true, eqb-false}
 use lib.Dec.{eqb}
 use lib.ListN.{getD}
 use Rattle.pattern_order.specs.Row.{Row}
-use Rattle.pattern_rows.specs.Next.{statesOf}
-use Rattle.pattern_rows.specs.Buffer.{beadCount, ruleOfBead, isAt, acceptingOf, nextOf}
+use Rattle.pattern_store.specs.Next.{statesOf}
+use Rattle.pattern_store.specs.Buffer.{beadCount, ruleOfBead, isAt, acceptingOf, nextOf}
 
 -- ---- how many states a bead has
 

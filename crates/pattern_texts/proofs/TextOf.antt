@@ -18,7 +18,7 @@ use Rattle.fields.specs.Fields.{sameBytes}
 use Rattle.numbers.specs.Numbers.{spellIn}
 use Rattle.pattern_line.specs.Limits.{mostLine, mostLabels}
 use Rattle.pattern_header.specs.Header.{columns, sameFields, nameBytes, areNames, among, distinct, isHeader, labelCount}
-use Rattle.pattern_rows.specs.Format.{patternText}
+use Rattle.pattern_store.specs.Format.{patternText}
 use Rattle.pattern_buffer.specs.Meaning.{labelsIn}
 use Rattle.pattern_texts.specs.Spelled.{namesUpTo, textOf, Heads}
 use Rattle.pattern_buffer.proofs.Places.{Passes}

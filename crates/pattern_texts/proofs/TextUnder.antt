@@ -17,9 +17,9 @@ use Rattle.text.specs.Lines.{TextLine, linesOf, printable}
 use Rattle.text.specs.Walk.{Judged, refused, passed, accepted, walk, readText}
 use Rattle.pattern_line.specs.Limits.{mostText, mostLine, mostStates, ruleAt, statesAt, nextAt}
 use Rattle.pattern_order.specs.Row.{Row, disordered, misruled}
-use Rattle.pattern_rows.specs.Next.{statesOf, allWithin, strays, ambiguous}
+use Rattle.pattern_store.specs.Next.{statesOf, allWithin, strays, ambiguous}
 use Rattle.pattern_row.specs.Fields.{rowOf, malformed}
-use Rattle.pattern_rows.specs.Format.{Known, judgeRow, judgeLine, patternFormat, judgeNext, conclude, patternText}
+use Rattle.pattern_store.specs.Format.{Known, judgeRow, judgeLine, patternFormat, judgeNext, conclude, patternText}
 use Rattle.lists.specs.Tables.{table}
 use Rattle.pattern_buffer.specs.Meaning.{at, labelsIn, beadsIn}
 use Rattle.pattern_texts.specs.Spelled.{rowIn, rowsOfBead, rowsOfBeads, rowsOf, fieldsOf, rowLines, textUnder, Heads}

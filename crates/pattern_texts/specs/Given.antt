@@ -5,8 +5,8 @@ use Prim.Native.Nat.{ℕ, _≤_}
 use lib.ListN.{length, take}
 use Rattle.text.specs.Walk.{accepted}
 use Rattle.pattern_line.specs.Limits.{bufferLength}
-use Rattle.pattern_rows.specs.Format.{Known, patternText}
-use Rattle.pattern_rows.specs.Buffer.{bufferOf}
+use Rattle.pattern_store.specs.Format.{Known, patternText}
+use Rattle.pattern_store.specs.Buffer.{bufferOf}
 
 pub record GivenPattern (buffer : List ℕ) : Type 0 where
   pub long : bufferLength ≤ length buffer

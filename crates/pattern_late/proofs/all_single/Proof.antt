@@ -1,5 +1,5 @@
 -- The loop keeps: all sets pass if those left do.
-use Rattle.pattern_rows.specs.Next.{allSingle}
+use Rattle.pattern_store.specs.Next.{allSingle}
 use lib.ListN.{length, drop}
 use mathlib.Core.Path.{_≡_}
 use Prim.Native.Nat.{_≤_, _-_}
