@@ -2,8 +2,8 @@
 
 // After a refusal.
 pub fn print_unchanged(result: &[u16], work: &[u16]) {
-    print_claim(b"; result kept", trial::is_marked(result));
-    print_claim(b", work kept", trial::is_marked(work));
+    print_claim(b"; result kept", outcome::is_marked(result));
+    print_claim(b", work kept", outcome::is_marked(work));
 }
 
 // After number 0.
@@ -15,9 +15,9 @@ pub fn print_work(work: &[u16]) {
 // A claim that fails is printed with a word more.
 pub fn print_claim(claim: &[u8], holds: bool) {
     if !holds {
-        trial::print_bytes(b" FAILS:");
+        outcome::print_bytes(b" FAILS:");
     }
-    trial::print_bytes(claim);
+    outcome::print_bytes(claim);
 }
 
 // Are the numbers from one index up to another all 0?
@@ -35,7 +35,7 @@ pub fn is_zero(s: &[u16], from: usize, to: usize) -> bool {
 // Are the numbers from this index on still marks?
 pub fn is_guarded(s: &[u16], from: usize) -> bool {
     let mut marks = [0u16; 16390];
-    trial::mark(&mut marks);
+    outcome::mark(&mut marks);
     is_same(s, &marks, from)
 }
 

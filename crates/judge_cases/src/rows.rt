@@ -7,21 +7,18 @@ ghost use Prim.Native.Nat.{_≤_};
 // The rows, ` v:prefixes:p0,p1` and so on; of a log of more than 16 steps the sum of sums of the 10240 numbers in their place.
 pub fn print_rows(steps: u16, result: &[u16]) {
     if steps > 16 {
-        trial::print_bytes(b" sum ");
-        trial::print_number(sum(result) as u64);
+        print_sum(result);
     } else {
-        trial::print_bytes(b" rows");
+        outcome::print_bytes(b" rows");
         print_each(steps, result);
     }
     print_claim(b"; rest 0", is_zero(result, place(steps, 0), 10240));
     print_claim(b", guard kept", is_guarded(result, 10240));
 }
 
-fn sum(result: &[u16]) -> u32 {
-    if result.len() < 10240 {
-        return 0;
-    }
-    trial::sum_of_sums(&result[..10240])
+fn print_sum(result: &[u16]) {
+    let n = trial::lent(10240, result.len());
+    outcome::print_sum(&result[..n]);
 }
 
 fn print_each(steps: u16, result: &[u16]) {
@@ -33,7 +30,7 @@ fn print_each(steps: u16, result: &[u16]) {
 }
 
 fn print_row(v: u16, result: &[u16]) {
-    print_after(b" ", v);
+    outcome::print_after(b" ", v);
     let n = last_used(v, result);
     let mut i = 0;
     while i <= n {
@@ -44,15 +41,10 @@ fn print_row(v: u16, result: &[u16]) {
 
 fn print_place(i: u16, n: u16) {
     if i < 2 {
-        print_after(b":", n);
+        outcome::print_after(b":", n);
     } else {
-        print_after(b",", n);
+        outcome::print_after(b",", n);
     }
-}
-
-fn print_after(sign: &[u8], n: u16) {
-    trial::print_bytes(sign);
-    trial::print_number(n as u64);
 }
 
 // The last place of the row with a number other than 0; the first place where there is none.

@@ -9,7 +9,7 @@ pub fn value(settings: &[u8], letter: u8, other: u16) -> u16 {
     while at < settings.len() {
         let end = trial::find_byte(settings, at, b',');
         if settings[at] == letter {
-            return read_u16(trial::part(settings, at + 1, end));
+            return trial::small_number(trial::part(settings, at + 1, end));
         }
         at = end + 1;
     }
@@ -49,16 +49,7 @@ fn set_place(item: &[u8], letter: u8, buffer: &mut [u16]) {
         return;
     }
     let sign = trial::find_byte(item, 0, b'=');
-    let place = read_u16(trial::part(item, 1, sign));
-    let number = read_u16(trial::part(item, sign + 1, item.len()));
+    let place = trial::small_number(trial::part(item, 1, sign));
+    let number = trial::small_number(trial::part(item, sign + 1, item.len()));
     trial::put(buffer, place as usize, number);
-}
-
-// A number over 65535 counts as 65535.
-fn read_u16(digits: &[u8]) -> u16 {
-    let n = trial::number(digits);
-    if n > 65535 {
-        return 65535;
-    }
-    n as u16
 }

@@ -1,6 +1,6 @@
 // The log reader on the texts of `cases.txt`, a line a case; at the end, how many cases got each answer.
 //
-// A line of the file has its columns parted by tabs: what is tried, the label count, the text as a script (`trial::expand`),
+// A line of the file has its columns parted by tabs: what is tried, the label count, the text as a script (`script::expand`),
 // and, where it is not the whole buffer, how many numbers of the buffer are lent. The buffer has six numbers more than the format uses.
 use answer::Answer;
 
@@ -16,43 +16,35 @@ fn try_cases(file: &[u8]) {
     while at < file.len() {
         let end = trial::find_byte(file, at, b'\n');
         let number = try_case(trial::part(file, at, end));
-        trial::tally(&mut counts, number);
+        outcome::tally(&mut counts, number);
         at = end + 1;
     }
-    trial::print_tally(&counts);
+    outcome::print_tally(&counts);
 }
 
 // The answer's numbers, and what the call left in the buffer.
 fn try_case(line: &[u8]) -> u16 {
-    let mut text = [0u8; 66000];
     let mut buffer = [0u16; 7176];
-    let n = trial::expand(trial::column(line, 2), &mut text);
-    trial::mark(&mut buffer);
-    let labels = label_count(trial::column(line, 1));
-    let lent = trial::number(trial::column(line, 3)) as usize;
-    let a = read_front(&text[..n], labels, &mut buffer, lent);
-    trial::print_answer(trial::column(line, 0), a.number, a.line, a.count);
-    trial::print_buffer(a.number, &buffer);
-    trial::print_line(b"");
+    outcome::mark(&mut buffer);
+    let a = read_case(line, &mut buffer);
+    outcome::print_call(trial::column(line, 0), a.number, a.line, a.count, &buffer);
     a.number
 }
 
-// Lends the first numbers of the buffer, all of them where `lent` is 0.
-fn read_front(text: &[u8], labels: u16, buffer: &mut [u16], lent: usize) -> Answer {
-    if lent == 0 {
-        return log::read_log(text, labels, buffer);
-    }
-    if lent > buffer.len() {
-        return log::read_log(text, labels, buffer);
-    }
-    log::read_log(text, labels, &mut buffer[..lent])
+fn read_case(line: &[u8], buffer: &mut [u16]) -> Answer {
+    let mut text = [0u8; 66000];
+    let n = script::expand(trial::column(line, 2), &mut text);
+    read_labelled(line, &text[..n], buffer)
 }
 
-// A number over 65535 counts as 65535.
-fn label_count(digits: &[u8]) -> u16 {
-    let n = trial::number(digits);
-    if n > 65535 {
-        return 65535;
-    }
-    n as u16
+fn read_labelled(line: &[u8], text: &[u8], buffer: &mut [u16]) -> Answer {
+    let labels = trial::small_number(trial::column(line, 1));
+    let lent = trial::small_number(trial::column(line, 3));
+    read_front(text, labels, buffer, lent)
+}
+
+// Lends the first numbers of the buffer, all of them where `lent` is 0.
+fn read_front(text: &[u8], labels: u16, buffer: &mut [u16], lent: u16) -> Answer {
+    let n = trial::lent(lent, buffer.len());
+    log::read_log(text, labels, &mut buffer[..n])
 }

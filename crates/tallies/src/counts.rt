@@ -18,7 +18,7 @@ pub fn print_counts(names: &[u8], counts: &[u64]) {
     let mut at = 0;
     while at < names.len() {
         let end = trial::find_byte(names, at, b'\n');
-        trial::print_count(trial::part(names, at, end), count_of(counts, i));
+        outcome::print_count(trial::part(names, at, end), count_of(counts, i));
         i = std::num::wrapping_add_usize(i, 1);
         at = end + 1;
     }

@@ -6,8 +6,8 @@ use text::lines::LineFault;
 
 pub fn number(field: &[u8]) {
     match numbers::read_number(field) {
-        Number::Value(value) => trial::print_number(value as u64),
-        Number::Malformed => trial::print_bytes(b"malformed"),
+        Number::Value(value) => outcome::print_number(value as u64),
+        Number::Malformed => outcome::print_bytes(b"malformed"),
     }
 }
 
@@ -21,16 +21,16 @@ pub fn line(bytes: &[u8]) {
 
 fn print_fault(fault: LineFault) {
     match fault {
-        LineFault::Long => trial::print_bytes(b"too long"),
-        LineFault::Unended => trial::print_bytes(b"no newline"),
-        LineFault::Unprintable => trial::print_bytes(b"a byte outside 32 to 126"),
+        LineFault::Long => outcome::print_bytes(b"too long"),
+        LineFault::Unended => outcome::print_bytes(b"no newline"),
+        LineFault::Unprintable => outcome::print_bytes(b"a byte outside 32 to 126"),
     }
 }
 
 // How many fields there are, and the place of each and of the one past the last.
 pub fn fields(line: &[u8], separator: u8) {
     let count = fields::field_count(line, separator);
-    trial::print_number(count as u64);
+    outcome::print_number(count as u64);
     print_places(line, separator, count);
     next_place(line, separator, count);
 }
@@ -42,15 +42,15 @@ fn print_places(line: &[u8], separator: u8, count: usize) {
 }
 
 fn next_place(line: &[u8], separator: u8, index: usize) {
-    trial::print_bytes(b"; ");
+    outcome::print_bytes(b"; ");
     place(line, separator, index);
 }
 
 pub fn place(line: &[u8], separator: u8, index: usize) {
-    trial::print_number(index as u64);
+    outcome::print_number(index as u64);
     match fields::find_field(line, separator, index) {
         Field::At(from, to) => print_span(from as u64, to as u64),
-        Field::Missing => trial::print_bytes(b" missing"),
+        Field::Missing => outcome::print_bytes(b" missing"),
     }
 }
 
@@ -61,13 +61,13 @@ fn print_span(from: u64, to: u64) {
 
 pub fn equal(a: &[u8], b: &[u8]) {
     if fields::same(a, b) {
-        trial::print_bytes(b"the same");
+        outcome::print_bytes(b"the same");
     } else {
-        trial::print_bytes(b"not the same");
+        outcome::print_bytes(b"not the same");
     }
 }
 
 fn print_with(what: &[u8], n: u64) {
-    trial::print_bytes(what);
-    trial::print_number(n);
+    outcome::print_bytes(what);
+    outcome::print_number(n);
 }

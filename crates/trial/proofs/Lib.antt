@@ -1,3 +1,2 @@
-pub mod CellLaws
+pub mod CountLaws
 pub mod RandomLaws
-pub mod TextLaws

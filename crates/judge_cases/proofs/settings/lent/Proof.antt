@@ -1,5 +1,5 @@
 -- `lent` lends no more numbers than the buffer has.
-use Rattle.trial.proofs.TextLaws.{kit}
+use Rattle.trial.proofs.CountLaws.{kit}
 use borrow.Author.Needs.{needs}
 use Rattle.judge_cases.proofs.settings.lent.Statement.{statement}
 use Rattle.judge_cases.proofs.settings.lent.Tie as tie

@@ -26,8 +26,8 @@ add-part c = search needs
 part-requires : tie.Need-part-requires Inv-loop μ-loop
 part-requires c κs = search needs
 
-read-u16-requires : tie.Need-read-u16-requires Inv-loop μ-loop
-read-u16-requires c κs = search needs
+small-number-requires : tie.Need-small-number-requires Inv-loop μ-loop
+small-number-requires c κs = search needs
 
 returns : tie.Need-returns Inv-loop μ-loop
 returns c = search needs
@@ -55,7 +55,7 @@ value-spec =
     shared-slice-read-if1
     add-part
     part-requires
-    read-u16-requires
+    small-number-requires
     returns
     add-at
     loop-less

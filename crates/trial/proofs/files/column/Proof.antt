@@ -3,6 +3,8 @@ use Prim.Native.Nat.{_≤_, _-_}
 use borrow.Author.Needs.{needs}
 use Rattle.trial.proofs.files.column.Statement.{statement}
 use Rattle.trial.proofs.files.column.Tie as tie
+use Rattle.trial.proofs.files.find_byte.Reads as find-byte-reads
+use Rattle.trial.proofs.files.part.Reads as part-reads
 
 abbrev Inv-loop : tie.InvT-loop
 Inv-loop line index at₀ i₀ at i = i ≤ index
@@ -15,12 +17,6 @@ loop-holds c = search needs
 
 find-byte-requires : tie.Need-find-byte-requires Inv-loop μ-loop
 find-byte-requires c κs = search needs
-
-slice-aggregate-result : tie.Need-slice-aggregate-result Inv-loop μ-loop
-slice-aggregate-result c = search needs
-
-returns : tie.Need-returns Inv-loop μ-loop
-returns c = search needs
 
 add-at : tie.Need-add-at Inv-loop μ-loop
 add-at c = search needs
@@ -40,8 +36,8 @@ find-byte-requires-2 c κs = search needs
 part-requires : tie.Need-part-requires Inv-loop μ-loop
 part-requires c κs = search needs
 
-returns-2 : tie.Need-returns-2 Inv-loop μ-loop
-returns-2 c = search needs
+returns : tie.Need-returns Inv-loop μ-loop
+returns c = search needs
 
 pub column-spec : {M : Type 1} → statement M
 column-spec =
@@ -51,12 +47,10 @@ column-spec =
     μ-loop
     loop-holds
     find-byte-requires
-    slice-aggregate-result
-    returns
     add-at
     add-i
     loop-less
     loop-again
     find-byte-requires-2
     part-requires
-    returns-2)
+    returns)

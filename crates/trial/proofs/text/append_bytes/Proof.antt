@@ -1,44 +1,49 @@
--- `append_bytes`: after i turns the first i bytes are appended.
-use Rattle.trial.proofs.TextLaws.{kit}
-use Rattle.trial.specs.Text.{Appended}
-use lib.ListN.{length, take}
-use Prim.Native.Nat.{_≤_, _-_}
+-- `append_bytes`: each turn writes a byte more, and the buffer stays as long as it was.
+use Prim.Native.Nat.{_-_}
+use mathlib.Core.Path.{_≡_}
+use lib.ListN.{length}
 use borrow.Author.Needs.{needs}
 use Rattle.trial.proofs.text.append_bytes.Statement.{statement}
 use Rattle.trial.proofs.text.append_bytes.Tie as tie
 
 abbrev Inv-loop : tie.InvT-loop
-Inv-loop buf₀ at bytes next₀ i₀ buf next i = (i ≤ length bytes) × Appended (take i bytes) buf₀ at next buf
+Inv-loop buf₀ at bytes next₀ i₀ buf next i = length buf ≡ length buf₀
 
 abbrev μ-loop : tie.MeasureT-loop
-μ-loop buf₀ at bytes next₀ i₀ buf next i = length bytes - i
-
-least-requires : tie.Need-least-requires Inv-loop μ-loop
-least-requires c κs = search (needs, kit)
+μ-loop buf₀ at bytes next₀ i₀ buf next i = length buf₀ - next
 
 loop-holds : tie.Need-loop-holds Inv-loop μ-loop
-loop-holds c = search (needs, kit)
-
-shared-slice-read-append-byte : tie.Need-shared-slice-read-append-byte Inv-loop μ-loop
-shared-slice-read-append-byte c = search (needs, kit)
-
-append-byte-requires : tie.Need-append-byte-requires Inv-loop μ-loop
-append-byte-requires c κs = search (needs, kit)
-
-add-i : tie.Need-add-i Inv-loop μ-loop
-add-i c = search (needs, kit)
-
-loop-less : tie.Need-loop-less Inv-loop μ-loop
-loop-less c = search (needs, kit)
-
-loop-again : tie.Need-loop-again Inv-loop μ-loop
-loop-again c = search (needs, kit)
+loop-holds c = search needs
 
 same-length : tie.Need-same-length Inv-loop μ-loop
-same-length c = search (needs, kit)
+same-length c = search needs
 
 returns : tie.Need-returns Inv-loop μ-loop
-returns c = search (needs, kit)
+returns c = search needs
+
+shared-slice-read-buf : tie.Need-shared-slice-read-buf Inv-loop μ-loop
+shared-slice-read-buf c = search needs
+
+slice-write-buf : tie.Need-slice-write-buf Inv-loop μ-loop
+slice-write-buf c = search needs
+
+add-next : tie.Need-add-next Inv-loop μ-loop
+add-next c = search needs
+
+add-i : tie.Need-add-i Inv-loop μ-loop
+add-i c = search needs
+
+loop-less : tie.Need-loop-less Inv-loop μ-loop
+loop-less c = search needs
+
+loop-again : tie.Need-loop-again Inv-loop μ-loop
+loop-again c = search needs
+
+same-length-2 : tie.Need-same-length-2 Inv-loop μ-loop
+same-length-2 c = search needs
+
+returns-2 : tie.Need-returns-2 Inv-loop μ-loop
+returns-2 c = search needs
 
 pub append-bytes-spec : {M : Type 1} → statement M
 append-bytes-spec =
@@ -46,12 +51,14 @@ append-bytes-spec =
     (tie.spec
     Inv-loop
     μ-loop
-    least-requires
     loop-holds
-    shared-slice-read-append-byte
-    append-byte-requires
+    same-length
+    returns
+    shared-slice-read-buf
+    slice-write-buf
+    add-next
     add-i
     loop-less
     loop-again
-    same-length
-    returns)
+    same-length-2
+    returns-2)

@@ -1,45 +1,46 @@
--- `append_repeated`: after i turns the byte is appended i times.
-use Rattle.trial.proofs.TextLaws.{kit}
-use Rattle.trial.specs.Text.{Appended}
+-- `append_repeated`: each turn writes a byte more, and the buffer stays as long as it was.
+use Prim.Native.Nat.{_-_}
 use mathlib.Core.Path.{_≡_}
-use lib.ListN.{length, replicate}
-use Prim.Native.Nat.{_≤_, _-_, min}
+use lib.ListN.{length}
 use borrow.Author.Needs.{needs}
 use Rattle.trial.proofs.text.append_repeated.Statement.{statement}
 use Rattle.trial.proofs.text.append_repeated.Tie as tie
 
 abbrev Inv-loop : tie.InvT-loop
-Inv-loop buf₀ at b times fitting next₀ i₀ buf next i = (i ≤ fitting) × (fitting ≡ min times (length buf₀)) × Appended (replicate i b) buf₀ at next buf
+Inv-loop buf₀ at b times next₀ left₀ buf next left = length buf ≡ length buf₀
 
 abbrev μ-loop : tie.MeasureT-loop
-μ-loop buf₀ at b times fitting next₀ i₀ buf next i = fitting - i
-
-least-requires : tie.Need-least-requires Inv-loop μ-loop
-least-requires c κs = search (needs, kit)
-
-least-requires-2 : tie.Need-least-requires-2 Inv-loop μ-loop
-least-requires-2 c κs = search (needs, kit)
+μ-loop buf₀ at b times next₀ left₀ buf next left = length buf₀ - next
 
 loop-holds : tie.Need-loop-holds Inv-loop μ-loop
-loop-holds c = search (needs, kit)
-
-append-byte-requires : tie.Need-append-byte-requires Inv-loop μ-loop
-append-byte-requires c κs = search (needs, kit)
-
-add-i : tie.Need-add-i Inv-loop μ-loop
-add-i c = search (needs, kit)
-
-loop-less : tie.Need-loop-less Inv-loop μ-loop
-loop-less c = search (needs, kit)
-
-loop-again : tie.Need-loop-again Inv-loop μ-loop
-loop-again c = search (needs, kit)
+loop-holds c = search needs
 
 same-length : tie.Need-same-length Inv-loop μ-loop
-same-length c = search (needs, kit)
+same-length c = search needs
 
 returns : tie.Need-returns Inv-loop μ-loop
-returns c = search (needs, kit)
+returns c = search needs
+
+slice-write-buf : tie.Need-slice-write-buf Inv-loop μ-loop
+slice-write-buf c = search needs
+
+add-next : tie.Need-add-next Inv-loop μ-loop
+add-next c = search needs
+
+sub-left : tie.Need-sub-left Inv-loop μ-loop
+sub-left c = search needs
+
+loop-less : tie.Need-loop-less Inv-loop μ-loop
+loop-less c = search needs
+
+loop-again : tie.Need-loop-again Inv-loop μ-loop
+loop-again c = search needs
+
+same-length-2 : tie.Need-same-length-2 Inv-loop μ-loop
+same-length-2 c = search needs
+
+returns-2 : tie.Need-returns-2 Inv-loop μ-loop
+returns-2 c = search needs
 
 pub append-repeated-spec : {M : Type 1} → statement M
 append-repeated-spec =
@@ -47,12 +48,13 @@ append-repeated-spec =
     (tie.spec
     Inv-loop
     μ-loop
-    least-requires
-    least-requires-2
     loop-holds
-    append-byte-requires
-    add-i
+    same-length
+    returns
+    slice-write-buf
+    add-next
+    sub-left
     loop-less
     loop-again
-    same-length
-    returns)
+    same-length-2
+    returns-2)

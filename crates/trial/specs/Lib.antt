@@ -1,2 +1,0 @@
-pub mod Random
-pub mod Text
