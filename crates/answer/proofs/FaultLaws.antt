@@ -7,7 +7,7 @@ use mathlib.Core.Bool.{Bool, true, false, not, cond, _&&_, _||_}
 use mathlib.Core.Option.{Option, none, some}
 use mathlib.Core.List.{List, [], _∷_}
 use native.Mathlib.Omega.{arith}
-use borrow.Author.Tests.{lt-ltb, le-ltb}
+use borrow.Author.Tests.{lt-ltb, le-ltb, eqb-false}
 use lib.Dec.{T, eqb, ltb}
 use Rattle.answer.specs.declared.Answer.{Answer}
 use Rattle.answer.specs.Answers.{acceptedWith}
@@ -188,6 +188,18 @@ accepted-passed (when test answer ∷ faults) count n t = go test refl (eqb (ans
     go true e false f m u rest = absurd (subst T f u)
     go false e true f m u rest = absurd (subst T (sym m) tt)
     go false e false f m u rest = passed-later test answer faults e (rest m u)
+
+-- And where what follows the tests is a refusal too, the call is never accepted.
+pub never-accepted : (faults : List Fault) (last : Answer) → numbered faults ≡ true → (last .number ≡ 0 → ⊥) → answerOr (firstFault faults) last .number ≡ 0 → ⊥
+unfolding numbered firstFault answerOr
+never-accepted [] last n f e = f e
+never-accepted (when test answer ∷ faults) last n f e = go test (eqb (answer .number) 0) refl n e (λ m u. never-accepted faults last m f u)
+  where
+    go : (b z : Bool) → eqb (answer .number) 0 ≡ z → (not z && numbered faults) ≡ true → answerOr (cond b (some answer) (firstFault faults)) last .number ≡ 0
+        → (numbered faults ≡ true → answerOr (firstFault faults) last .number ≡ 0 → ⊥) → ⊥
+    go b true z m u rest = absurd (subst T (sym m) tt)
+    go true false z m u rest = eqb-false (answer .number) 0 z u
+    go false false z m u rest = rest m u
 
 module _ (test : Bool) (answer : Answer) (faults : List Fault) (p : Passed (when test answer ∷ faults)) where
   -- Who passes all tests passes the first, and the others.

@@ -147,34 +147,3 @@ pub ruleset text-kit = (
   steps-answered,
   steps-filled,
 )
-
--- ---- the host's faults
-
-module _ (text : List ℕ) (count : ℕ) (log : List ℕ) where
-  pub short-answered : length log < 7170 → (r : Answer) → r ≡ refusedAt 1 0 → r ≡ logAnswer text count log
-  short-answered h r q = q ∙ sym (rw (lt-ltb (length log) 7170 h))
-
-  pub short-after : length log < 7170 → log ≡ logAfter text count log
-  short-after h = sym (rw (lt-ltb (length log) 7170 h))
-
-  module _ (long : 7170 ≤ length log) where
-    pub few-answered : count < 1 → (r : Answer) → r ≡ refusedAt 5 0 → r ≡ logAnswer text count log
-    few-answered h r q = q ∙ sym (rw (le-ltb (length log) 7170 long, lt-ltb count 1 h))
-
-    pub few-after : count < 1 → log ≡ logAfter text count log
-    few-after h = sym (rw (le-ltb (length log) 7170 long, lt-ltb count 1 h))
-
-    module _ (some : 1 ≤ count) where
-      pub many-answered : 16 < count → (r : Answer) → r ≡ refusedAt 5 0 → r ≡ logAnswer text count log
-      many-answered h r q = q ∙ sym (rw (le-ltb (length log) 7170 long, le-ltb count 1 some, lt-ltb 16 count h))
-
-      pub many-after : 16 < count → log ≡ logAfter text count log
-      many-after h = sym (rw (le-ltb (length log) 7170 long, le-ltb count 1 some, lt-ltb 16 count h))
-
-      pub text-answered : count ≤ 16 → (r : Answer) → r ≡ answerOf (logText count text) → r ≡ logAnswer text count log
-      text-answered h r q = q ∙ sym (rw (le-ltb (length log) 7170 long, le-ltb count 1 some, le-ltb 16 count h))
-
-      pub text-after : count ≤ 16 → (exit : List ℕ) → exit ≡ filledBy (logText count text) log → exit ≡ logAfter text count log
-      text-after h exit q = q ∙ sym (rw (le-ltb (length log) 7170 long, le-ltb count 1 some, le-ltb 16 count h))
-
-pub ruleset log-kit = (short-answered, short-after, few-answered, few-after, many-answered, many-after, text-answered, text-after)

@@ -1,11 +1,12 @@
 -- What reading a log answers and leaves in the lent buffer.
 use Prim.Native.Nat.{ℕ}
-use mathlib.Core.Bool.{Bool, cond, _||_}
-use mathlib.Core.List.{List}
+use mathlib.Core.Bool.{Bool, _||_}
+use mathlib.Core.List.{List, [], _∷_}
 use lib.Dec.{ltb}
 use lib.ListN.{length}
 use Rattle.answer.specs.declared.Answer.{Answer}
 use Rattle.answer.specs.Answers.{refusedAt}
+use Rattle.answer.specs.Faults.{Fault, when, firstFault, answerOr, keptOr}
 use Rattle.log_line.specs.Limits.{mostLabels, bufferLength}
 use Rattle.log_line.specs.Format.{logText}
 use Rattle.log_walk.specs.Filled.{answerOf, filledBy}
@@ -14,11 +15,15 @@ use Rattle.log_walk.specs.Filled.{answerOf, filledBy}
 abbrev pub badCount : ℕ → Bool
 badCount count = ltb count 1 || ltb mostLabels count
 
--- 1, the buffer is shorter than 7,170; then 5; then the text.
+-- The host's refusals: 1, the buffer is shorter than 7,170; then 5.
+abbrev pub hostFaults : ℕ → List ℕ → List Fault
+hostFaults count buffer =
+    when (ltb (length buffer) bufferLength) (refusedAt 1 0)
+    ∷ when (badCount count) (refusedAt 5 0)
+    ∷ []
+
 abbrev pub logAnswer : List ℕ → ℕ → List ℕ → Answer
-logAnswer text count buffer =
-    cond (ltb (length buffer) bufferLength) (refusedAt 1 0) (cond (badCount count) (refusedAt 5 0) (answerOf (logText count text)))
+logAnswer text count buffer = answerOr (firstFault (hostFaults count buffer)) (answerOf (logText count text))
 
 abbrev pub logAfter : List ℕ → ℕ → List ℕ → List ℕ
-logAfter text count buffer =
-    cond (ltb (length buffer) bufferLength) buffer (cond (badCount count) buffer (filledBy (logText count text) buffer))
+logAfter text count buffer = keptOr (firstFault (hostFaults count buffer)) buffer (filledBy (logText count text) buffer)

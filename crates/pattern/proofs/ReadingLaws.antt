@@ -17,7 +17,8 @@ use Rattle.pattern_order.specs.Row.{Row}
 use Rattle.pattern_store.specs.Next.{statesOf}
 use Rattle.pattern_store.specs.Format.{Known, judgeNext, patternFormat, conclude, patternText}
 use Rattle.pattern_store.specs.Buffer.{beadCount, ruleOfBead, acceptingOf, nextOf, bufferOf}
-use Rattle.pattern.specs.Answer.{answerOf, filledBy, patternAnswer, patternAfter}
+use Rattle.pattern.specs.Answer.{hostFaults, answerOf, filledBy, patternAnswer, patternAfter}
+use Rattle.answer.proofs.FaultLaws.{Passed, answer-refused as first-answer, answer-accepted as other-answer, room-kept, room-filled, first-below, stopped-below, passed-past, passed-all}
 use Rattle.pattern_line.specs.Answers.{refusalNumber}
 use Rattle.pattern_late.specs.Late.{Bounded, lateFaults, lateSaid}
 use Rattle.pattern_walk.specs.Reading.{HeaderRead, FirstTold, FirstRead, LinesRead, RowsTold, RowsRead}
@@ -183,17 +184,20 @@ accepted-said (faulty m l) c e = let w : _≡_ {A = ℕ} 0 1 = cc in absurd (ome
 module _ (text room : List ℕ) where
   module _ (short : length room < bufferLength) where
     pub answer-short : (a : Answer) → a ≡ refusedAt 2 0 → a ≡ patternAnswer text room
-    answer-short a e = e ∙ sym (rw (lt-ltb (length room) bufferLength short) refl)
+    answer-short a e = first-answer (hostFaults room) (refusedAt 2 0) a (answerOf (patternText text)) e (first-below (length room) bufferLength (refusedAt 2 0) [] short)
 
     pub after-short : room ≡ patternAfter text room
-    after-short = sym (rw (lt-ltb (length room) bufferLength short) refl)
+    after-short = room-kept (hostFaults room) room (filledBy (patternText text) room) (stopped-below (length room) bufferLength (refusedAt 2 0) [] short)
 
   module _ (fits : bufferLength ≤ length room) (r : TextAnswer) (b : List ℕ) (d : TextRead text r b) where
+    passed : Passed (hostFaults room)
+    passed = passed-past (length room) bufferLength (refusedAt 2 0) [] fits passed-all
+
     answer-long : patternAnswer text room ≡ answerOf (patternText text)
-    answer-long = rw (le-ltb (length room) bufferLength fits) refl
+    answer-long = sym (other-answer (hostFaults room) (answerOf (patternText text)) (answerOf (patternText text)) passed refl)
 
     after-long : patternAfter text room ≡ filledBy (patternText text) room
-    after-long = rw (le-ltb (length room) bufferLength fits) refl
+    after-long = sym (room-filled (hostFaults room) room (filledBy (patternText text) room) (filledBy (patternText text) room) passed refl)
 
     module _ (f : Refusal) (line : ℕ) (p : r ≡ TextRefused f line) where
       fault : patternText text ≡ faulty (refusalNumber f) line

@@ -1,11 +1,11 @@
 -- What reading a text into a lent buffer answers, and what it leaves there.
 use Prim.Native.Nat.{ℕ}
-use mathlib.Core.Bool.{cond}
-use mathlib.Core.List.{List, _++_}
+use mathlib.Core.List.{List, [], _∷_, _++_}
 use lib.Dec.{ltb}
 use lib.ListN.{length, drop}
 use Rattle.answer.specs.declared.Answer.{Answer}
 use Rattle.answer.specs.Answers.{acceptedWith, refusedAt}
+use Rattle.answer.specs.Faults.{Fault, when, firstFault, answerOr, keptOr}
 use Rattle.text.specs.Walk.{Outcome, accepted, faulty}
 use Rattle.pattern_line.specs.Limits.{bufferLength}
 use Rattle.pattern_store.specs.Format.{Known, patternText}
@@ -21,9 +21,12 @@ abbrev pub filledBy : Outcome Known → List ℕ → List ℕ
 filledBy (accepted k) buffer = bufferOf k ++ drop bufferLength buffer
 filledBy (faulty number line) buffer = buffer
 
--- 2, before all else: the buffer is shorter than 2,074.
+-- The host's refusal, before all else: 2, the buffer is shorter than 2,074.
+abbrev pub hostFaults : List ℕ → List Fault
+hostFaults buffer = when (ltb (length buffer) bufferLength) (refusedAt 2 0) ∷ []
+
 abbrev pub patternAnswer : List ℕ → List ℕ → Answer
-patternAnswer text buffer = cond (ltb (length buffer) bufferLength) (refusedAt 2 0) (answerOf (patternText text))
+patternAnswer text buffer = answerOr (firstFault (hostFaults buffer)) (answerOf (patternText text))
 
 abbrev pub patternAfter : List ℕ → List ℕ → List ℕ
-patternAfter text buffer = cond (ltb (length buffer) bufferLength) buffer (filledBy (patternText text) buffer)
+patternAfter text buffer = keptOr (firstFault (hostFaults buffer)) buffer (filledBy (patternText text) buffer)

@@ -9,13 +9,13 @@ ghost use Rattle.pattern_row.specs.Fields.{ruleOf};
 ghost use Rattle.pattern_row.specs.Answers.{rowJudged, nextSets};
 ghost use Rattle.numbers.specs.Listed.{areNumbers};
 use numbers::Number;
+use numbers::number_at;
 use pattern_line::refusals::Refusal;
 use pattern_line::words::word_at;
 use pattern_order::Last;
 use pattern_order::LineAnswer;
 use pattern_order::LineValues;
 use pattern_order::judge_values;
-use numbers::number_at;
 
 fn rule_at(line: &[u8], marks: &[usize]) -> u16
     requires { ⌜ Marked 32 (now line) (now marks) ⌝ }

@@ -1,35 +1,35 @@
 -- The host's faults, then the text.
-use Rattle.log.proofs.TextLaws.{log-kit}
+use Rattle.answer.proofs.FaultLaws.{fault-kit, pass-kit}
 use borrow.Author.Needs.{needs}
 use Rattle.log.proofs.read_log.Statement.{statement}
 use Rattle.log.proofs.read_log.Tie as tie
 
 refused-requires : tie.Need-refused-requires
-refused-requires c κs = search (needs, log-kit)
+refused-requires c κs = search needs
 
 returns : tie.Need-returns
-returns c = search (needs, log-kit)
+returns c = search (needs, fault-kit)
 
 refused-requires-2 : tie.Need-refused-requires-2
-refused-requires-2 c κs = search (needs, log-kit)
+refused-requires-2 c κs = search needs
 
 returns-2 : tie.Need-returns-2
-returns-2 c = search (needs, log-kit)
+returns-2 c = search (needs, fault-kit)
 
 refused-requires-3 : tie.Need-refused-requires-3
-refused-requires-3 c κs = search (needs, log-kit)
+refused-requires-3 c κs = search needs
 
 returns-3 : tie.Need-returns-3
-returns-3 c = search (needs, log-kit)
+returns-3 c = search (needs, fault-kit)
 
 read-text-requires : tie.Need-read-text-requires
-read-text-requires c κs = search (needs, log-kit)
+read-text-requires c κs = search needs
 
 same-length : tie.Need-same-length
-same-length c = search (needs, log-kit)
+same-length c = search needs
 
 returns-4 : tie.Need-returns-4
-returns-4 c = search (needs, log-kit)
+returns-4 c = search (needs, pass-kit)
 
 pub read-log-spec : {M : Type 1} → statement M
 read-log-spec =
