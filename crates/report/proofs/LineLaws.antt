@@ -16,7 +16,7 @@ use Rattle.text.specs.Split.{joined}
 use Rattle.numbers.specs.Numbers.{spell}
 use Rattle.report.specs.Report.{headerText, pivotsWord, rowText, refusalText}
 use Rattle.writing.specs.Put.{Put, listed}
-use Rattle.writing.proofs.PutLaws.{then}
+use Rattle.writing.proofs.PutLaws.{then, joined-listed}
 
 -- ---- whether the whole pattern holds
 
@@ -32,11 +32,6 @@ none-holds beads s h k =
 
 -- ---- pivots
 
-joined-listed : (n : ℕ) (ns : List ℕ) → joined 44 (map spell (n ∷ ns)) ≡ spell n ++ listed ns
-unfolding joined
-joined-listed n [] = sym (append-nil (spell n))
-joined-listed n (m ∷ ns) = ap (λ (t : List ℕ). spell n ++ (44 ∷ t)) (joined-listed m ns)
-
 -- The pivots of a row of ten numbers: the first, and those up to the index `end`.
 pivots-part : (row : List ℕ) (beads end : ℕ) → length row ≡ 10 → end ≡ min (beads + 2) 10
     → take (suc beads) (drop 1 row) ≡ getD row 1 0 ∷ take (end - 2) (drop 2 row)
@@ -49,11 +44,11 @@ pivots-part row beads end h e = rw (drop-cons row 1 0 (omega arith)) (ap (λ (t 
 
 module _ (l row : List ℕ) (at beads : ℕ) (holds : Bool) (e : holds ≡ member (beads - 1) (getD row 0 0)) where
   pub pivots-put : (m new : List ℕ) (end k r : ℕ) → holds ≡ true → length row ≡ 10 → end ≡ min (beads + 2) 10
-      → Put (spell (getD row 1 0)) at l k m → Put (listed (take (end - 2) (drop 2 row))) k m r new
+      → Put (spell (getD row 1 0)) at l k m → Put (listed 44 (take (end - 2) (drop 2 row))) k m r new
       → Put (pivotsWord beads row) at l r new
   pivots-put m new end k r t h f a b =
       rw (sym e ∙ t, pivots-part row beads end h f, joined-listed)
-      (then (spell (getD row 1 0)) (listed (take (end - 2) (drop 2 row))) l m new at k r a b)
+      (then (spell (getD row 1 0)) (listed 44 (take (end - 2) (drop 2 row))) l m new at k r a b)
 
   pub dash-put : (m : List ℕ) (r : ℕ) → holds ≡ false → Put (45 ∷ []) at l r m → Put (pivotsWord beads row) at l r m
   dash-put m r t a = rw (sym e ∙ t) a

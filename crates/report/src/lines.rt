@@ -53,7 +53,7 @@ fn put_pivots(out: &mut [u8], at: usize, beads: u16, row: &[u16]) -> usize
     if whole_holds(beads, row[0]) {
         let end = pivots_end(beads);
         let next = put_number(out, at, row[1]);
-        return put_listed(out, next, &row[2..end]);
+        return put_listed(out, next, b',', &row[2..end]);
     }
     put_byte(out, at, b'-')
 }

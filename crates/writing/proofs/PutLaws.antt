@@ -2,11 +2,12 @@
 -- Assumes nothing.
 use Prim.Native.Nat.{ℕ, suc, _+_, _-_, _/_, _%_, _^_, _≤_, _<_}
 use mathlib.Core.Path.{_≡_, refl, sym, ap, _∙_}
-use mathlib.Core.List.{List, [], _∷_, _++_, append-assoc, append-nil}
+use mathlib.Core.List.{List, [], _∷_, _++_, map, append-assoc, append-nil}
 use native.Mathlib.Numerals.{add-one}
 use native.Mathlib.Omega.{arith}
 use lib.ListN.{length, getD, take, set, length-append}
 use lib.Seq.{sets, set-out, take-suc, take-all, length-take-le}
+use Rattle.text.specs.Split.{joined}
 use Rattle.numbers.specs.Numbers.{spell}
 use Rattle.numbers.proofs.Spelling.{spell-digit}
 use Rattle.numbers.proofs.SpelledNumbers.{spell-more, length-spell-digit, length-spell-more, length-spell}
@@ -76,20 +77,26 @@ bytes-more l m new bytes at i k r h a b =
 pub bytes-all : (l m bytes : List ℕ) (at i k : ℕ) → length bytes ≤ i → Put (take i bytes) at l k m → Put bytes at l k m
 bytes-all l m bytes at i k h a = rw (take-all i bytes h) at a
 
-listed-snoc : (ns : List ℕ) (n : ℕ) → listed (ns ++ (n ∷ [])) ≡ listed ns ++ (44 ∷ spell n)
-listed-snoc [] n = ap (λ (t : List ℕ). 44 ∷ t) (append-nil (spell n))
-listed-snoc (m ∷ ns) n =
-    ap (λ (t : List ℕ). 44 ∷ (spell m ++ t)) (listed-snoc ns n)
-    ∙ ap (λ (t : List ℕ). 44 ∷ t) (sym (append-assoc (spell m) (listed ns) (44 ∷ spell n)))
+listed-snoc : (c : ℕ) (ns : List ℕ) (n : ℕ) → listed c (ns ++ (n ∷ [])) ≡ listed c ns ++ (c ∷ spell n)
+listed-snoc c [] n = ap (λ (t : List ℕ). c ∷ t) (append-nil (spell n))
+listed-snoc c (m ∷ ns) n =
+    ap (λ (t : List ℕ). c ∷ (spell m ++ t)) (listed-snoc c ns n)
+    ∙ ap (λ (t : List ℕ). c ∷ t) (sym (append-assoc (spell m) (listed c ns) (c ∷ spell n)))
 
-pub listed-more : (l m o new ns : List ℕ) (at i k j r : ℕ) → i < length ns → Put (listed (take i ns)) at l k m
-    → Put (44 ∷ []) k m j o → Put (spell (getD ns i 0)) j o r new → Put (listed (take (i + 1) ns)) at l r new
-listed-more l m o new ns at i k j r h a b d =
+pub listed-more : (c : ℕ) (l m o new ns : List ℕ) (at i k j r : ℕ) → i < length ns → Put (listed c (take i ns)) at l k m
+    → Put (c ∷ []) k m j o → Put (spell (getD ns i 0)) j o r new → Put (listed c (take (i + 1) ns)) at l r new
+listed-more c l m o new ns at i k j r h a b d =
     rw (add-one, take-suc ns i 0, listed-snoc)
-    (then (listed (take i ns)) (44 ∷ spell (getD ns i 0)) l m new at k r a (then (44 ∷ []) (spell (getD ns i 0)) m o new k j r b d))
+    (then (listed c (take i ns)) (c ∷ spell (getD ns i 0)) l m new at k r a (then (c ∷ []) (spell (getD ns i 0)) m o new k j r b d))
 
-pub listed-all : (l m ns : List ℕ) (at i k : ℕ) → length ns ≤ i → Put (listed (take i ns)) at l k m → Put (listed ns) at l k m
-listed-all l m ns at i k h a = rw (take-all i ns h) at a
+pub listed-all : (c : ℕ) (l m ns : List ℕ) (at i k : ℕ) → length ns ≤ i → Put (listed c (take i ns)) at l k m → Put (listed c ns) at l k m
+listed-all c l m ns at i k h a = rw (take-all i ns h) at a
+
+-- Numbers joined by a separator: the first, and the others behind it.
+pub joined-listed : (c n : ℕ) (ns : List ℕ) → joined c (map spell (n ∷ ns)) ≡ spell n ++ listed c ns
+unfolding joined
+joined-listed c n [] = sym (append-nil (spell n))
+joined-listed c n (m ∷ ns) = ap (λ (t : List ℕ). spell n ++ (c ∷ t)) (joined-listed c m ns)
 
 pub ruleset kit = (
   nothing-put,

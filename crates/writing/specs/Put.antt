@@ -12,7 +12,7 @@ pub record Put (text : List ℕ) (at : ℕ) (old : List ℕ) (r : ℕ) (new : Li
   pub laid : new ≡ sets old at text
   pub next : r ≡ at + length text
 
--- Each number's spelling behind a comma: what follows the first of joined numbers.
-abbrev pub listed : List ℕ → List ℕ
-listed [] = []
-listed (n ∷ ns) = 44 ∷ (spell n ++ listed ns)
+-- Each number's spelling behind the separator: what follows the first of joined numbers.
+abbrev pub listed : ℕ → List ℕ → List ℕ
+listed separator [] = []
+listed separator (n ∷ ns) = separator ∷ (spell n ++ listed separator ns)

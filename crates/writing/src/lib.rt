@@ -63,16 +63,16 @@ pub fn put_bytes(out: &mut [u8], at: usize, bytes: &[u8]) -> usize
     next
 }
 
-// Each number behind a comma.
-pub fn put_listed(out: &mut [u8], at: usize, numbers: &[u16]) -> usize
+// Each number behind the separator.
+pub fn put_listed(out: &mut [u8], at: usize, separator: u8, numbers: &[u16]) -> usize
     requires { ⌜ at + 6 * length (now numbers) < 2 ^ 64 ⌝ }
-    ensures { λ r. ⌜ Put (listed (now (numbers .entry))) at (now (out .entry)) r (now (out .exit)) ⌝ }
+    ensures { λ r. ⌜ Put (listed separator (now (numbers .entry))) at (now (out .entry)) r (now (out .exit)) ⌝ }
     ensures { λ r. ⌜ r ≤ at + 6 * length (now (numbers .entry)) ⌝ }
 {
     let mut next = at;
     let mut i = 0;
     while i < numbers.len() {
-        next = put_byte(out, next, b',');
+        next = put_byte(out, next, separator);
         next = put_number(out, next, numbers[i]);
         i += 1;
     }

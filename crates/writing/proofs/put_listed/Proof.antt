@@ -12,10 +12,10 @@ use Rattle.writing.proofs.put_byte.Reads as put-byte-reads
 use Rattle.writing.proofs.put_number.Reads as put-number-reads
 
 abbrev Inv-loop : tie.InvT-loop
-Inv-loop out₀ at numbers next₀ i₀ out next i = (i ≤ length numbers) × (next ≤ at + 6 * i) × (length out ≡ length out₀) × Put (listed (take i numbers)) at out₀ next out
+Inv-loop out₀ at separator numbers next₀ i₀ out next i = (i ≤ length numbers) × (next ≤ at + 6 * i) × (length out ≡ length out₀) × Put (listed separator (take i numbers)) at out₀ next out
 
 abbrev μ-loop : tie.MeasureT-loop
-μ-loop out₀ at numbers next₀ i₀ out next i = length numbers - i
+μ-loop out₀ at separator numbers next₀ i₀ out next i = length numbers - i
 
 -- src/lib.rt:74:5
 loop-holds : tie.Need-loop-holds Inv-loop μ-loop
