@@ -120,11 +120,11 @@ unfolding listing-log shorter-log walk asLines split printable sameBytes digits 
 other-boards = refl
 
 three : (labelsBy (patternText listing-pattern) ≡ 3) × (labelsBy (patternText some-clean) ≡ 3)
-unfolding listing-pattern some-clean walk asLines split printable sameBytes digits valueFrom decimal sameFields nameBytes areNames among distinct followsLast breaksTurns statesOf allWithin allSingle beadCount membersFrom
+unfolding listing-pattern some-clean walk asLines split printable sameBytes digits valueFrom decimal sameFields nameBytes areNames among distinct areNumbers followsLast breaksTurns statesOf allWithin allSingle beadCount membersFrom
 three = (refl, refl)
 
 some-one : (beadsIn (patternFrom some-clean) ≡ 1) × (at (patternFrom some-clean) (ruleAt 0) ≡ 1)
-unfolding some-clean walk asLines split printable sameBytes digits valueFrom decimal sameFields nameBytes areNames among distinct followsLast breaksTurns statesOf allWithin allSingle beadCount membersFrom table ruleOfBead
+unfolding some-clean walk asLines split printable sameBytes digits valueFrom decimal sameFields nameBytes areNames among distinct areNumbers followsLast breaksTurns statesOf allWithin allSingle beadCount membersFrom table ruleOfBead
 some-one = (refl, refl)
 
 alike-computed : alike? (logOf (logFrom listing-log)) (logOf (logFrom shorter-log)) 5 ≡ true
