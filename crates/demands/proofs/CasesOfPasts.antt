@@ -39,8 +39,9 @@ use Rattle.necklace.specs.Past.{Alike, OnlyAdds}
 use Rattle.necklace.specs.Compute.{row, prefixes, pivots, before, seek, holds?, some?, all?, backward, pass}
 use Rattle.necklace.specs.Tests.{route?, past?, alike?, onlyAdds?}
 use Rattle.necklace.proofs.Tests.{alike-agrees, onlyAdds-agrees}
-use Rattle.judging.specs.Limits.{resultLength, workLength}
-use Rattle.judging.specs.Judge.{logIn, accepts, resultAfter, zeros, rowIn}
+use Rattle.results.specs.Limits.{resultLength, workLength}
+use Rattle.judging.specs.Judge.{logIn, accepts, resultAfter}
+use Rattle.results.specs.Result.{zeros, rowIn}
 use Rattle.demands.specs.Demands.{ruleHolds}
 use Rattle.judging.proofs.Calls.{accepted-call}
 use Rattle.demands.proofs.Whole.{whole, whole-row}

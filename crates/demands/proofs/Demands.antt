@@ -30,8 +30,9 @@ use Rattle.pattern_buffer.proofs.Meaning.{pattern-well-formed}
 use Rattle.log_buffer.specs.Meaning.{logOf}
 use Rattle.log_buffer.specs.Valid.{isLog}
 use Rattle.log_buffer.proofs.Meaning.{log-well-formed}
-use Rattle.judging.specs.Limits.{resultLength, workLength, rowLength}
-use Rattle.judging.specs.Judge.{patternIn, logIn, wholeUpTo, judgeAnswer, accepts, resultAfter, rowIn}
+use Rattle.results.specs.Limits.{resultLength, workLength, rowLength}
+use Rattle.judging.specs.Judge.{patternIn, logIn, judgeAnswer, accepts, resultAfter}
+use Rattle.results.specs.Result.{wholeUpTo, rowIn}
 use Rattle.demands.specs.Demands.{ruleHolds, rowsWithBit, Exchanged}
 use Rattle.judging.proofs.Calls.{Accepted, passed-all, answer-accepted, row-in-result}
 

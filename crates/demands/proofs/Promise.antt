@@ -28,9 +28,11 @@ use Rattle.log_texts.specs.Given.{GivenLog}
 use Rattle.log_texts.proofs.LogBuffers.{log-buffers}
 use Rattle.log_buffer.proofs.Sound.{sound-iff}
 use Rattle.log_buffer.proofs.Meaning.{size-is}
-use Rattle.judging.specs.Limits.{resultLength, workLength, rowLength}
-use Rattle.judging.specs.Judge.{patternIn, logIn, wholeUpTo, judgeFaults, judgeAnswer, accepts, rowsUpTo, rowsOf, zeros, resultAfter, workAfter}
-use Rattle.judging.proofs.Calls.{Accepted, accepted-call, answer-accepted, result-accepted, work-accepted, rows-length}
+use Rattle.results.specs.Limits.{resultLength, workLength, rowLength}
+use Rattle.judging.specs.Judge.{patternIn, logIn, judgeFaults, judgeAnswer, accepts, resultAfter, workAfter}
+use Rattle.results.specs.Result.{wholeUpTo, rowsUpTo, rowsOf, zeros}
+use Rattle.judging.proofs.Calls.{Accepted, accepted-call, answer-accepted, result-accepted, work-accepted}
+use Rattle.results.proofs.RowPlaces.{rows-length}
 use Rattle.demands.specs.Promise.{Applies, log-short, pattern-short, result-short, work-short, no-pattern, no-log, FirstEntry, Judged, Promise, refused, accepted}
 use Rattle.demands.proofs.Demands.{demand-two, demand-two-count}
 

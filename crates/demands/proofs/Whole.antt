@@ -22,8 +22,9 @@ use Rattle.log_buffer.specs.Meaning.{logOf}
 use Rattle.log_buffer.specs.Valid.{isLog}
 use Rattle.log_texts.proofs.LogBuffers.{given-passes}
 use Rattle.necklace.specs.Compute.{row}
-use Rattle.judging.specs.Limits.{resultLength, workLength}
-use Rattle.judging.specs.Judge.{patternIn, logIn, judgeAnswer, accepts, resultAfter, rowIn}
+use Rattle.results.specs.Limits.{resultLength, workLength}
+use Rattle.judging.specs.Judge.{patternIn, logIn, judgeAnswer, accepts, resultAfter}
+use Rattle.results.specs.Result.{rowIn}
 use Rattle.judging.proofs.Calls.{Accepted, accepted-call, row-in-result}
 
 -- Two accepted texts, and buffers that hold what they give.

@@ -7,7 +7,7 @@ use lib.ListN.{getD, set}
 use Rattle.sets.specs.Sets.{member, complement}
 use Rattle.pattern_line.specs.Limits.{ruleAt, statesAt, acceptingAt}
 use Rattle.pattern_buffer.specs.Meaning.{at, labelsIn, beadsIn}
-use Rattle.judging.specs.Judge.{rowIn}
+use Rattle.results.specs.Result.{rowIn}
 
 -- Under a pattern of one bead the rule holds at a step if bit 0 is set in its row.
 abbrev pub ruleHolds : List ℕ → ℕ → Bool

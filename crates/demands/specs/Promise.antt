@@ -13,8 +13,9 @@ use Rattle.log_line.specs.Limits.{bufferLength as logLength}
 use Rattle.pattern_buffer.specs.Meaning.{labelsIn}
 use Rattle.pattern_texts.specs.Given.{GivenPattern}
 use Rattle.log_texts.specs.Given.{GivenLog}
-use Rattle.judging.specs.Limits.{resultLength, workLength, rowLength}
-use Rattle.judging.specs.Judge.{patternIn, logIn, rowIn}
+use Rattle.results.specs.Limits.{resultLength, workLength, rowLength}
+use Rattle.judging.specs.Judge.{patternIn, logIn}
+use Rattle.results.specs.Result.{rowIn}
 use Rattle.demands.specs.Demands.{rowsWithBit}
 
 -- The entry of document 01's list with this number applies.

@@ -14,8 +14,9 @@ use Rattle.answer.specs.Answers.{acceptedWith}
 use Rattle.answer.specs.Faults.{firstFault, answerOr, keptOr}
 use Rattle.pattern_line.specs.Limits.{bufferLength as patternLength}
 use Rattle.log_line.specs.Limits.{bufferLength as logLength}
-use Rattle.judging.specs.Limits.{resultLength, workLength}
-use Rattle.judging.specs.Judge.{patternIn, logIn, wholeUpTo, rowsOf, zeros, bufferFaults, judgeFaults, judgeAnswer, resultAfter, workAfter}
+use Rattle.results.specs.Limits.{resultLength, workLength}
+use Rattle.judging.specs.Judge.{patternIn, logIn, bufferFaults, judgeFaults, judgeAnswer, resultAfter, workAfter}
+use Rattle.results.specs.Result.{wholeUpTo, rowsOf, zeros}
 use Rattle.judging.specs.Fit.{fitAnswer, fitResult, fitWork}
 
 module _ (pattern log result work : List ℕ) (a : 7170 ≤ length log) (b : 2074 ≤ length pattern) (c : 10240 ≤ length result) (d : 16384 ≤ length work) where

@@ -18,15 +18,16 @@ use Rattle.answer.proofs.FaultLaws.{Passed, passed-later, passed-all as none-le
 use Rattle.necklace.specs.Dag.{Dag}
 use Rattle.necklace.specs.Necklace.{Pattern}
 use Rattle.necklace.specs.Compute.{holds?, row}
-use Rattle.necklace.proofs.RowMeaning.{row-length}
+use Rattle.results.proofs.RowPlaces.{row-there}
 use Rattle.pattern_line.specs.Limits.{bufferLength as patternLength}
 use Rattle.log_line.specs.Limits.{bufferLength as logLength}
 use Rattle.pattern_buffer.specs.Meaning.{patternOf, labelsIn}
 use Rattle.pattern_buffer.specs.Valid.{isPattern}
 use Rattle.log_buffer.specs.Meaning.{logOf}
 use Rattle.log_buffer.specs.Valid.{isLog}
-use Rattle.judging.specs.Limits.{resultLength, workLength, rowLength}
-use Rattle.judging.specs.Judge.{patternIn, logIn, rowsUpTo, wholeUpTo, judgeFaults, judgeAnswer, accepts, rowsOf, zeros, resultAfter, workAfter, rowIn}
+use Rattle.results.specs.Limits.{resultLength, workLength, rowLength}
+use Rattle.judging.specs.Judge.{patternIn, logIn, judgeFaults, judgeAnswer, accepts, resultAfter, workAfter}
+use Rattle.results.specs.Result.{rowsUpTo, wholeUpTo, rowsOf, zeros, rowIn}
 
 -- The tests that an accepted call passed.
 pub record Accepted (pattern log result work : List ℕ) : Type 0 where
@@ -92,38 +93,6 @@ module _ (pattern log result work : List ℕ) where
 
   pub work-accepted : T (accepts pattern log result work) → workAfter pattern log result work ≡ zeros workLength ++ drop workLength work
   work-accepted t = sym (room-filled faults work _ _ (no-fault t) refl)
-
--- ---- the rows, one after the other
-
-rows-next : (G : Dag) (P : Pattern) (v : ℕ) → rowsUpTo G P (suc v) ≡ rowsUpTo G P v ++ row G P v
-unfolding rowsUpTo
-rows-next G P v = refl
-
-rows-none : (G : Dag) (P : Pattern) → rowsUpTo G P zero ≡ []
-unfolding rowsUpTo
-rows-none G P = refl
-
-pub rows-length : (G : Dag) (P : Pattern) (n : ℕ) → length (rowsUpTo G P n) ≡ rowLength * n
-rows-length G P zero = ap length (rows-none G P)
-rows-length G P (suc n) =
-    ap length (rows-next G P n) ∙ length-append (rowsUpTo G P n) (row G P n) ∙ ap₂ (λ (a b : ℕ). a + b) (rows-length G P n) (row-length G P n) ∙ omega arith
-
--- The row of a vertex below n stands at ten times its number, whatever follows.
-pub row-there : (G : Dag) (P : Pattern) (n v : ℕ) (rest : List ℕ) → v < n → rowIn (rowsUpTo G P n ++ rest) v ≡ row G P v
-row-there G P zero v rest h = absurd (omega arith)
-row-there G P (suc n) v rest h = go (eq-or-lt-of-le h) (λ l. row-there G P n v (row G P n ++ rest) l)
-  where
-    shape : rowsUpTo G P (suc n) ++ rest ≡ rowsUpTo G P n ++ (row G P n ++ rest)
-    shape = ap (λ (l : List ℕ). l ++ rest) (rows-next G P n) ∙ append-assoc (rowsUpTo G P n) (row G P n) rest
-
-    go : (suc v ≡ suc n) ⊎ (suc v < suc n) → (v < n → rowIn (rowsUpTo G P n ++ (row G P n ++ rest)) v ≡ row G P v)
-        → rowIn (rowsUpTo G P (suc n) ++ rest) v ≡ row G P v
-    go (inl e) before =
-        let z : v ≡ n = omega arith in
-        ap (λ (l : List ℕ). rowIn l v) shape ∙ ap (λ (k : ℕ). rowIn (rowsUpTo G P n ++ (row G P n ++ rest)) k) z
-        ∙ ap (take rowLength) (drop-at (rowsUpTo G P n) (row G P n ++ rest) (rowLength * n) (rows-length G P n))
-        ∙ take-at (row G P n) rest rowLength (row-length G P n) ∙ ap (row G P) (sym z)
-    go (inr l) before = ap (λ (k : List ℕ). rowIn k v) shape ∙ before (omega arith)
 
 -- The row of a step in the result of an accepted call.
 pub row-in-result : (pattern log result work : List ℕ) → T (accepts pattern log result work) → (v : ℕ) → v < logIn log .size

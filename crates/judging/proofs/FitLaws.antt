@@ -13,7 +13,7 @@ use Rattle.pattern_buffer.specs.Meaning.{labelsIn}
 use Rattle.pattern_buffer.specs.Valid.{isPattern}
 use Rattle.log_buffer.specs.Valid.{isLog}
 use Rattle.phases.specs.Phases.{Tried}
-use Rattle.judging.specs.Judge.{zeros}
+use Rattle.results.specs.Result.{zeros}
 
 pub both-tried : (pattern log : List ℕ) (b d : Bool) → b ≡ isPattern pattern → b ≡ true → d ≡ isLog (getD pattern 0 0) log → d ≡ true → Tried pattern log
 both-tried pattern log b d p y q z = record {

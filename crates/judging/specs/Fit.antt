@@ -7,8 +7,9 @@ use Rattle.answer.specs.Answers.{acceptedWith}
 use Rattle.answer.specs.Faults.{firstFault, answerOr, keptOr}
 use Rattle.pattern_buffer.specs.Meaning.{patternOf}
 use Rattle.log_buffer.specs.Meaning.{logOf}
-use Rattle.judging.specs.Limits.{resultLength}
-use Rattle.judging.specs.Judge.{wholeUpTo, bufferFaults, rowsOf, zeros}
+use Rattle.results.specs.Limits.{resultLength}
+use Rattle.judging.specs.Judge.{bufferFaults}
+use Rattle.results.specs.Result.{wholeUpTo, rowsOf, zeros}
 
 abbrev pub fitAnswer : List ℕ → List ℕ → Answer
 fitAnswer pattern log =

@@ -1,23 +1,23 @@
 -- The judge's answer, and what it leaves in the result and in the work buffer (document 01, "Lent rooms" and "Who is at fault").
 -- Only the documented lengths of the pattern and the log buffer are looked at.
-use Prim.Native.Nat.{ℕ, zero, suc, _+_, _-_, _*_}
-use mathlib.Core.Bool.{Bool, not, cond}
+use Prim.Native.Nat.{ℕ}
+use mathlib.Core.Bool.{Bool, not}
 use mathlib.Core.List.{List, [], _∷_, _++_}
 use lib.Dec.{eqb, ltb}
-use lib.ListN.{length, take, drop, replicate}
+use lib.ListN.{length, take, drop}
 use Rattle.answer.specs.declared.Answer.{Answer}
 use Rattle.answer.specs.Answers.{acceptedWith, refusedAt}
 use Rattle.answer.specs.Faults.{Fault, when, firstFault, answerOr, keptOr}
 use Rattle.necklace.specs.Dag.{Dag}
 use Rattle.necklace.specs.Necklace.{Pattern}
-use Rattle.necklace.specs.Compute.{holds?, row}
 use Rattle.pattern_line.specs.Limits.{bufferLength as patternLength}
 use Rattle.log_line.specs.Limits.{bufferLength as logLength}
 use Rattle.pattern_buffer.specs.Meaning.{patternOf, labelsIn}
 use Rattle.pattern_buffer.specs.Valid.{isPattern}
 use Rattle.log_buffer.specs.Meaning.{logOf}
 use Rattle.log_buffer.specs.Valid.{isLog}
-use Rattle.judging.specs.Limits.{resultLength, workLength, rowLength}
+use Rattle.results.specs.Limits.{resultLength, workLength}
+use Rattle.results.specs.Result.{wholeUpTo, rowsOf, zeros}
 
 -- What the two buffers are read as.
 abbrev pub patternIn : List ℕ → Pattern
@@ -25,16 +25,6 @@ patternIn pattern = patternOf (take patternLength pattern)
 
 abbrev pub logIn : List ℕ → Dag
 logIn log = logOf (take logLength log)
-
--- The rows of the vertices below n, one after the other.
-unfoldable pub rowsUpTo : Dag → Pattern → ℕ → List ℕ
-rowsUpTo G P zero = []
-rowsUpTo G P (suc v) = rowsUpTo G P v ++ row G P v
-
--- How many vertices below n the whole pattern holds at.
-unfoldable pub wholeUpTo : Dag → Pattern → ℕ → ℕ
-wholeUpTo G P zero = 0
-wholeUpTo G P (suc v) = wholeUpTo G P v + cond (holds? G P (P .count) v) 1 0
 
 -- 6, then 7, of a pattern and a log buffer of their documented lengths.
 abbrev pub bufferFaults : List ℕ → List ℕ → List Fault
@@ -61,21 +51,10 @@ judgeAnswer pattern log result work =
 abbrev pub accepts : List ℕ → List ℕ → List ℕ → List ℕ → Bool
 accepts pattern log result work = eqb (judgeAnswer pattern log result work .number) 0
 
--- The result buffer: a row for each step, zeros in the unused places, the rest as it was.
-abbrev pub rowsOf : Dag → Pattern → List ℕ
-rowsOf G P = rowsUpTo G P (G .size) ++ replicate (resultLength - rowLength * G .size) 0
-
--- The row of a step: ten numbers of the result, starting at ten times the step's number.
-abbrev pub rowIn : List ℕ → ℕ → List ℕ
-rowIn result v = take rowLength (drop (rowLength * v) result)
-
+-- The result buffer: the rows and zeros of an accepted judging in front, the rest as it was.
 abbrev pub resultAfter : List ℕ → List ℕ → List ℕ → List ℕ → List ℕ
 resultAfter pattern log result work =
     keptOr (firstFault (judgeFaults pattern log result work)) result (rowsOf (logIn log) (patternIn pattern) ++ drop resultLength result)
-
--- So many zeros.
-unfoldable pub zeros : ℕ → List ℕ
-zeros n = replicate n 0
 
 -- The work buffer: all 0 after an accepted judging, the rest as it was.
 abbrev pub workAfter : List ℕ → List ℕ → List ℕ → List ℕ → List ℕ

@@ -1,4 +1,2 @@
-pub mod Limits
 pub mod Judge
-pub mod Result
 pub mod Fit

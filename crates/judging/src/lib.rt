@@ -1,99 +1,10 @@
 // The judge: fills one row for each step of a log, by a pattern.
 ghost use mathlib.Core.Path.{_≡_};
-ghost use mathlib.Core.List.{_++_};
 ghost use Prim.Native.Nat.{_≤_, _<_};
-ghost use lib.ListN.{length, drop, replicate};
-ghost use Rattle.log_buffer.specs.Meaning.{logOf, stepsIn};
-ghost use Rattle.pattern_buffer.specs.Meaning.{patternOf};
-ghost use Rattle.phases.specs.Phases.{Tried, Unmarked, Marks, WalkedDownTo};
-ghost use Rattle.judging.specs.Result.{resultFrom, Sized};
-ghost use Rattle.judging.specs.Judge.{wholeUpTo, rowsOf, judgeAnswer, resultAfter, workAfter};
+ghost use lib.ListN.{length};
+ghost use Rattle.judging.specs.Judge.{judgeAnswer, resultAfter, workAfter};
 ghost use Rattle.judging.specs.Fit.{fitAnswer, fitResult, fitWork};
 use answer::Answer;
-use passes::Ready;
-ghost use Rattle.rows.specs.Rows.{wholeFrom};
-
-// Both phases: the sets of prefixes, and the pivots.
-fn fill_arrays(
-    pattern: &[u16],
-    log: &[u16],
-    prefixes: &mut [u16],
-    pivots: &mut [u16],
-    work: &mut [u16],
-)
-    requires { ⌜ Tried (now pattern) (now log) ⌝ }
-    requires { ⌜ Unmarked (now prefixes) ⌝ }
-    requires { ⌜ (1024 ≤ length (now prefixes)) × (9216 ≤ length (now pivots)) × (16384 ≤ length (now work)) ⌝ }
-    ensures { λ _. ⌜ Marks (logOf (now (log .entry))) (patternOf (now (pattern .entry))) (stepsIn (now (log .entry))) (now (prefixes .exit)) ⌝ }
-    ensures { λ _. ⌜ WalkedDownTo (logOf (now (log .entry))) (patternOf (now (pattern .entry))) (stepsIn (now (log .entry))) 0 (now (pivots .exit)) ⌝ }
-{
-    let mut flags = [0u16; 1024];
-    let ready = Ready { bead: 0, target: 0 };
-    phases::prefixes::mark_prefixes(pattern, log, prefixes, work);
-    phases::walk::walk_back(pattern, log, ready, prefixes, pivots, work, &mut flags);
-}
-
-// The rows of all steps, and zeros in the unused places.
-fn write_result(beads: u16, n: usize, prefixes: &[u16], pivots: &[u16], result: &mut [u16])
-    requires { ⌜ (1 ≤ beads) × (beads ≤ 8) × (n ≤ 1024) ⌝ }
-    requires { ⌜ (10240 ≤ length (now result)) × (1024 ≤ length (now prefixes)) × (9216 ≤ length (now pivots)) ⌝ }
-    ensures { λ _. ⌜ now (result .exit) ≡ resultFrom beads (now (prefixes .entry)) (now (pivots .entry)) n (now (result .entry)) ⌝ }
-{
-    rows::write_rows(result, beads, n, prefixes, pivots);
-    lists::clear(result, 10 * n, 10240);
-}
-
-// The result, and the number of steps at which the whole pattern holds.
-fn finish(beads: u16, n: usize, prefixes: &[u16], pivots: &[u16], result: &mut [u16]) -> u16
-    requires { ⌜ (1 ≤ beads) × (beads ≤ 8) × (n ≤ 1024) ⌝ }
-    requires { ⌜ (10240 ≤ length (now result)) × (1024 ≤ length (now prefixes)) × (9216 ≤ length (now pivots)) ⌝ }
-    ensures { λ r. ⌜ r ≡ wholeFrom beads (now (prefixes .entry)) n ⌝ }
-    ensures { λ _. ⌜ now (result .exit) ≡ resultFrom beads (now (prefixes .entry)) (now (pivots .entry)) n (now (result .entry)) ⌝ }
-{
-    write_result(beads, n, prefixes, pivots, result);
-    rows::count_whole(beads, n, prefixes)
-}
-
-// Judges buffers that passed their tests: their beads and steps are known.
-fn judge_arrays(
-    pattern: &[u16],
-    log: &[u16],
-    beads: u16,
-    n: usize,
-    result: &mut [u16],
-    work: &mut [u16],
-) -> u16
-    requires { ⌜ Sized (now pattern) (now log) beads n ⌝ }
-    requires { ⌜ (10240 ≤ length (now result)) × (16384 ≤ length (now work)) ⌝ }
-    ensures { λ r. ⌜ r ≡ wholeUpTo (logOf (now (log .entry))) (patternOf (now (pattern .entry))) (logOf (now (log .entry)) .size) ⌝ }
-    ensures { λ _. ⌜ now (result .exit) ≡ rowsOf (logOf (now (log .entry))) (patternOf (now (pattern .entry))) ++ drop 10240 (now (result .entry)) ⌝ }
-{
-    let mut prefixes = [0u16; 1024];
-    let mut pivots = [0u16; 9216];
-    fill_arrays(pattern, log, &mut prefixes, &mut pivots, work);
-    finish(beads, n, &prefixes, &pivots, result)
-}
-
-fn wide(x: u16) -> usize
-    ensures { λ r. ⌜ r ≡ x ⌝ }
-{
-    x as usize
-}
-
-// Judges buffers that passed their tests, and leaves zeros in the work buffer.
-fn judge_tried(pattern: &[u16], log: &[u16], result: &mut [u16], work: &mut [u16]) -> u16
-    requires { ⌜ Tried (now pattern) (now log) ⌝ }
-    requires { ⌜ (10240 ≤ length (now result)) × (16384 ≤ length (now work)) ⌝ }
-    ensures { λ r. ⌜ r ≡ wholeUpTo (logOf (now (log .entry))) (patternOf (now (pattern .entry))) (logOf (now (log .entry)) .size) ⌝ }
-    ensures { λ _. ⌜ now (result .exit) ≡ rowsOf (logOf (now (log .entry))) (patternOf (now (pattern .entry))) ++ drop 10240 (now (result .entry)) ⌝ }
-    ensures { λ _. ⌜ now (work .exit) ≡ replicate (length (now (work .entry))) 0 ⌝ }
-{
-    let beads = pattern[1];
-    let n = wide(log[0]);
-    let count = judge_arrays(pattern, log, beads, n, result, work);
-    backward::clear(work);
-    count
-}
 
 // Tests 6 and 7, and the judging, on buffers of their documented lengths.
 fn judge_fit(pattern: &[u16], log: &[u16], result: &mut [u16], work: &mut [u16]) -> Answer
@@ -106,7 +17,7 @@ fn judge_fit(pattern: &[u16], log: &[u16], result: &mut [u16], work: &mut [u16])
     if known {
         let fits = log_test::is_log(log, pattern[0]);
         if fits {
-            return answer::accepted(judge_tried(pattern, log, result, work));
+            return answer::accepted(results::judge_tried(pattern, log, result, work));
         }
         return answer::refused(7, 0);
     }

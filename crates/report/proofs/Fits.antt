@@ -25,7 +25,8 @@ use Rattle.log_buffer.proofs.Sound.{sound-iff}
 use Rattle.pattern_line.specs.Limits.{bufferLength as patternLength}
 use Rattle.pattern_buffer.specs.Meaning.{labelsIn}
 use Rattle.pattern_buffer.proofs.Meaning.{pattern-well-formed}
-use Rattle.judging.specs.Judge.{patternIn, logIn, accepts, resultAfter, rowIn}
+use Rattle.judging.specs.Judge.{patternIn, logIn, accepts, resultAfter}
+use Rattle.results.specs.Result.{rowIn}
 use Rattle.judging.proofs.Calls.{Accepted, passed-all, row-in-result}
 use Rattle.report.specs.Report.{headerText, pivotsWord, rowText, refusalFields, refusalText, rowLines}
 

@@ -9,7 +9,7 @@ use Rattle.text.specs.Split.{joined}
 use Rattle.writing.specs.Put.{Put}
 use Rattle.writing.proofs.PutLaws.{nothing-put, then}
 use Rattle.report.specs.Report.{headerText, rowText, rowLines}
-use Rattle.judging.specs.Judge.{rowIn}
+use Rattle.results.specs.Result.{rowIn}
 
 pub no-rows : (l result : List ℕ) (beads at : ℕ) → Put (rowLines beads 0 result) at l at l
 unfolding rowLines

@@ -8,7 +8,7 @@ use Rattle.answer.specs.declared.Answer.{Answer}
 use Rattle.sets.specs.Sets.{member}
 use Rattle.text.specs.Split.{joined, lineFrom}
 use Rattle.numbers.specs.Numbers.{spell}
-use Rattle.judging.specs.Judge.{rowIn}
+use Rattle.results.specs.Result.{rowIn}
 
 -- `vertex`, `prefixes`, `pivots`
 abbrev pub headerFields : List (List ℕ)

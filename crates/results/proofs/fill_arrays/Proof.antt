@@ -1,8 +1,8 @@
 -- The first phase gives what the second asks.
 use Rattle.passes.proofs.ServingLaws.{ready-none}
 use borrow.Author.Needs.{needs}
-use Rattle.judging.proofs.fill_arrays.Statement.{statement}
-use Rattle.judging.proofs.fill_arrays.Tie as tie
+use Rattle.results.proofs.fill_arrays.Statement.{statement}
+use Rattle.results.proofs.fill_arrays.Tie as tie
 
 mark-prefixes-requires : tie.Need-mark-prefixes-requires
 mark-prefixes-requires c κs = search needs

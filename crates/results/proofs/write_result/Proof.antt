@@ -1,8 +1,8 @@
 -- Rows, then zeros behind them.
-use Rattle.judging.proofs.JudgeLaws.{result-kit}
+use Rattle.results.proofs.JudgeLaws.{result-kit}
 use borrow.Author.Needs.{needs}
-use Rattle.judging.proofs.write_result.Statement.{statement}
-use Rattle.judging.proofs.write_result.Tie as tie
+use Rattle.results.proofs.write_result.Statement.{statement}
+use Rattle.results.proofs.write_result.Tie as tie
 
 write-rows-requires : tie.Need-write-rows-requires
 write-rows-requires c κs = search (needs, result-kit)

@@ -19,10 +19,10 @@ use Rattle.pattern_buffer.proofs.Meaning.{pattern-well-formed}
 use Rattle.pattern_buffer.proofs.Places.{passes-out}
 use Rattle.passes.proofs.Facts.{laid}
 use Rattle.phases.specs.Phases.{Tried, Unmarked, Marks, WalkedDownTo}
-use Rattle.judging.specs.Limits.{resultLength, rowLength}
-use Rattle.judging.specs.Judge.{rowsUpTo, wholeUpTo, rowsOf}
-use Rattle.judging.specs.Result.{resultFrom, Sized}
-use Rattle.judging.proofs.Rows.{counted, rows-are}
+use Rattle.results.specs.Limits.{resultLength, rowLength}
+use Rattle.results.specs.Result.{rowsUpTo, wholeUpTo, rowsOf}
+use Rattle.results.specs.Arrays.{resultFrom, Sized}
+use Rattle.results.proofs.Rows.{counted, rows-are}
 
 -- ---- the result, from the arrays
 

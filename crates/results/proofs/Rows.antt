@@ -14,7 +14,7 @@ use Rattle.necklace.specs.Compute.{holds?, prefixes, pivots, row}
 use Rattle.necklace.proofs.RowMeaning.{prefixes-member}
 use Rattle.rows.specs.Rows.{pivotAt, rowFrom, rowsFrom, wholeFrom}
 use Rattle.rows.proofs.Meaning.{row-is}
-use Rattle.judging.specs.Judge.{rowsUpTo, wholeUpTo}
+use Rattle.results.specs.Result.{rowsUpTo, wholeUpTo}
 use Rattle.phases.specs.Phases.{Marks, WalkedDownTo}
 use Rattle.phases.proofs.WalkBack.{pivot-is}
 

@@ -1,8 +1,8 @@
 -- What the phases leave gives the rows and the count.
-use Rattle.judging.proofs.JudgeLaws.{arrays-kit}
+use Rattle.results.proofs.JudgeLaws.{arrays-kit}
 use borrow.Author.Needs.{needs}
-use Rattle.judging.proofs.judge_arrays.Statement.{statement}
-use Rattle.judging.proofs.judge_arrays.Tie as tie
+use Rattle.results.proofs.judge_arrays.Statement.{statement}
+use Rattle.results.proofs.judge_arrays.Tie as tie
 
 slice-aggregate-fill-arrays : tie.Need-slice-aggregate-fill-arrays
 slice-aggregate-fill-arrays c = search (needs, arrays-kit)

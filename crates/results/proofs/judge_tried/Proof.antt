@@ -1,8 +1,8 @@
 -- The buffers that passed their tests have so many beads and steps.
-use Rattle.judging.proofs.JudgeLaws.{tried-kit, work-cleared}
+use Rattle.results.proofs.JudgeLaws.{tried-kit, work-cleared}
 use borrow.Author.Needs.{needs}
-use Rattle.judging.proofs.judge_tried.Statement.{statement}
-use Rattle.judging.proofs.judge_tried.Tie as tie
+use Rattle.results.proofs.judge_tried.Statement.{statement}
+use Rattle.results.proofs.judge_tried.Tie as tie
 
 shared-slice-read-beads : tie.Need-shared-slice-read-beads
 shared-slice-read-beads c = search (needs, tried-kit)
