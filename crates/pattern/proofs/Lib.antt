@@ -1,2 +1,3 @@
 pub mod AcceptedLaws
 pub mod ReadingLaws
+pub mod Refused

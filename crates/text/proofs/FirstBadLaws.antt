@@ -3,9 +3,12 @@
 use Prim.Native.Nat.{ℕ, _+_}
 use mathlib.Core.Path.{_≡_, refl, sym, ap, _∙_, subst}
 use mathlib.Core.Logic.{_↔_}
+use mathlib.Core.Bool.{Bool, true, false, cond}
 use mathlib.Core.List.{List, [], _∷_}
 use native.Mathlib.Omega.{arith}
-use Rattle.text.specs.Walk.{Judged, refused, passed, Outcome, accepted, faulty, proceed, walk}
+use lib.Dec.{T}
+use Rattle.text.specs.Lines.{linesOf}
+use Rattle.text.specs.Walk.{Judged, refused, passed, Outcome, accepted, faulty, proceed, walk, Format, badSize, readText}
 use Rattle.text.specs.FirstBad.{AllPass, done, next, FirstBad, here, later}
 
 module _ {S L : Type 0} (judge : S → ℕ → L → Judged S) where
@@ -60,3 +63,33 @@ module _ {S L : Type 0} (judge : S → ℕ → L → Judged S) where
 
   pub walk-refuses : (s : S) (n k m : ℕ) (ls : List L) → walk judge s n ls ≡ faulty k m ↔ FirstBad judge s n ls k m
   walk-refuses s n k m ls = (walk-bad s n k m ls, bad-walk)
+
+-- ---- the number of a refusal
+
+-- No line is refused with 0.
+unfoldable pub Numbered : {S : Type 0} → Judged S → Type 0
+Numbered (refused k) = k ≡ 0 → ⊥
+Numbered (passed s) = Unit
+
+pub bad-number : {S L : Type 0} (judge : S → ℕ → L → Judged S) → ((s : S) (n : ℕ) (l : L) → Numbered (judge s n l))
+    → {s : S} {n k m : ℕ} {ls : List L} → FirstBad judge s n ls k m → k ≡ 0 → ⊥
+unfolding Numbered
+bad-number judge f (here {s = s} {n = n} {l = l} e) = subst Numbered e (f s n l)
+bad-number judge f (later e rest) = bad-number judge f rest
+
+-- ---- the size, before all lines
+
+module _ {S : Type 0} (F : Format S) (text : List ℕ) where
+  pub size-faulty : T (badSize (F .most) text) → readText F text ≡ faulty (F .size-refusal) 0
+  size-faulty t = go (badSize (F .most) text) t
+    where
+      go : (b : Bool) → T b → cond b (faulty (F .size-refusal) 0) (walk (F .judge) (F .start) 1 (linesOf text)) ≡ faulty (F .size-refusal) 0
+      go true t = refl
+      go false t = absurd t
+
+  pub size-passes : (T (badSize (F .most) text) → ⊥) → readText F text ≡ walk (F .judge) (F .start) 1 (linesOf text)
+  size-passes f = go (badSize (F .most) text) f
+    where
+      go : (b : Bool) → (T b → ⊥) → cond b (faulty (F .size-refusal) 0) (walk (F .judge) (F .start) 1 (linesOf text)) ≡ walk (F .judge) (F .start) 1 (linesOf text)
+      go true f = absurd (f tt)
+      go false f = refl

@@ -1,0 +1,191 @@
+-- The log reader refuses with a number and a line just where document 01's list gives them, and a refused call leaves the room as it was.
+-- Assumes nothing.
+use Prim.Native.Nat.{ℕ, _≤_, _<_}
+use mathlib.Core.Path.{_≡_, refl, sym, ap, _∙_, subst}
+use mathlib.Core.Logic.{_↔_}
+use mathlib.Core.Bool.{Bool, true, false, cond}
+use mathlib.Core.List.{List, [], _∷_, _++_}
+use native.Mathlib.Omega.{arith}
+use borrow.Author.Tests.{lt-ltb, le-ltb, ltb-true, ltb-false, eq-eqb, eqb-true}
+use lib.Dec.{T, eqb, ltb}
+use lib.ListN.{length}
+use Rattle.sets.proofs.Truth.{yes-true, true-yes, no-false, false-no}
+use Rattle.answer.specs.declared.Answer.{Answer}
+use Rattle.answer.specs.Answers.{refusedAt}
+use Rattle.answer.specs.Faults.{firstFault, answerOr, keptOr}
+use Rattle.text.specs.Split.{split}
+use Rattle.text.specs.Lines.{TextLine, linesOf, whole}
+use Rattle.text.specs.Walk.{Judged, refused, passed, Outcome, accepted, faulty, walk, badSize}
+use Rattle.text.specs.FirstBad.{AllPass, FirstBad}
+use Rattle.text.proofs.FirstBadLaws.{walk-accepts, walk-refuses, Numbered, bad-number, size-faulty, size-passes}
+use Rattle.log_line.specs.Limits.{mostText, mostLine, bufferLength}
+use Rattle.log_line.specs.Header.{columnsOf, isHeader}
+use Rattle.log_line.specs.Step.{Step, stepOf, stepAt, malformed, misnumbered, mislinked, mislabelled, overLimit}
+use Rattle.log_line.specs.Format.{Known, judgeValues, judgeStep, judgeLine, logFormat, conclude, logText}
+use Rattle.log_walk.specs.Filled.{answerOf, filledBy}
+use Rattle.log.specs.Answer.{badCount, logAnswer, logAfter}
+use Rattle.log.specs.Refused.{Called, Readable, Refused, short, labels, size, line, nothing}
+
+-- ---- no line is refused with 0
+
+module _ (count : ℕ) where
+  values-numbered : (k : Known) (v : ℕ) (x : Step) → Numbered (judgeValues count k v x)
+  unfolding Numbered
+  values-numbered k v x =
+      go (mislinked v (x .preds)) (mislabelled count v (x .labels)) (overLimit (k .steps) v (x .preds)) (record { columns = k .columns; steps = k .steps ++ (x ∷ []) })
+    where
+      go : (a b c : Bool) (t : Known) → Numbered (cond a (refused 24) (cond b (refused 25) (cond c (refused 26) (passed t))))
+      go true b c t = λ z. absurd (omega arith)
+      go false true c t = λ z. absurd (omega arith)
+      go false false true t = λ z. absurd (omega arith)
+      go false false false t = tt
+
+  step-numbered : (k : Known) (n : ℕ) (fs : List (List ℕ)) → Numbered (judgeStep count k n fs)
+  unfolding Numbered
+  step-numbered k n fs =
+      go (malformed (k .columns) fs) (misnumbered (k .columns) n fs) (judgeValues count k (stepAt n) (stepOf (k .columns) fs)) (values-numbered k (stepAt n) (stepOf (k .columns) fs))
+    where
+      go : (a b : Bool) (j : Judged Known) → Numbered j → Numbered (cond a (refused 21) (cond b (refused 23) j))
+      go true b j r = λ z. absurd (omega arith)
+      go false true j r = λ z. absurd (omega arith)
+      go false false j r = r
+
+  line-numbered : (k : Known) (n : ℕ) (l : TextLine) → Numbered (judgeLine count k n l)
+  unfolding Numbered
+  line-numbered k n l =
+      go (whole mostLine l) (eqb n 1) (isHeader fields) (record { columns = columnsOf fields; steps = [] }) (judgeStep count k n fields) (step-numbered k n fields)
+    where
+      fields : List (List ℕ)
+      fields = split 32 (l .bytes)
+
+      go : (a b c : Bool) (t : Known) (j : Judged Known) → Numbered j → Numbered (cond a (cond b (cond c (passed t) (refused 22)) j) (refused 21))
+      go false b c t j r = λ z. absurd (omega arith)
+      go true true true t j r = tt
+      go true true false t j r = λ z. absurd (omega arith)
+      go true false c t j r = r
+
+-- ---- the answer and the room, by the host's tests and by what the text says
+
+module _ (text : List ℕ) (count : ℕ) (buffer : List ℕ) where
+  module _ (h : length buffer < bufferLength) where
+    short-answer : logAnswer text count buffer ≡ refusedAt 1 0
+    unfolding firstFault answerOr
+    short-answer = rw (lt-ltb (length buffer) bufferLength h) refl
+
+    short-after : logAfter text count buffer ≡ buffer
+    unfolding firstFault keptOr
+    short-after = rw (lt-ltb (length buffer) bufferLength h) refl
+
+  module _ (long : bufferLength ≤ length buffer) (t : T (badCount count)) where
+    count-answer : logAnswer text count buffer ≡ refusedAt 5 0
+    unfolding firstFault answerOr
+    count-answer = rw (le-ltb (length buffer) bufferLength long, yes-true (badCount count) t) refl
+
+    count-after : logAfter text count buffer ≡ buffer
+    unfolding firstFault keptOr
+    count-after = rw (le-ltb (length buffer) bufferLength long, yes-true (badCount count) t) refl
+
+  module _ (called : Called count buffer) where
+    called-answer : logAnswer text count buffer ≡ answerOf (logText count text)
+    unfolding firstFault answerOr
+    called-answer = rw (le-ltb (length buffer) bufferLength (called .long), no-false (badCount count) (called .counted)) refl
+
+    called-after : logAfter text count buffer ≡ filledBy (logText count text) buffer
+    unfolding firstFault keptOr
+    called-after = rw (le-ltb (length buffer) bufferLength (called .long), no-false (badCount count) (called .counted)) refl
+
+    said-answer : (number at : ℕ) → logText count text ≡ faulty number at → logAnswer text count buffer ≡ refusedAt number at
+    said-answer number at e = called-answer ∙ ap answerOf e
+
+    said-after : (number at : ℕ) → logText count text ≡ faulty number at → logAfter text count buffer ≡ buffer
+    said-after number at e = called-after ∙ ap (λ (o : Outcome Known). filledBy o buffer) e
+
+  abbrev lines : Outcome Known
+  lines = walk (judgeLine count) (logFormat count .start) 1 (linesOf text)
+
+  size-said : T (badSize mostText text) → logText count text ≡ faulty 20 0
+  size-said t = ap conclude (size-faulty (logFormat count) text t)
+
+  module _ (sized : T (badSize mostText text) → ⊥) where
+    line-said : (number at : ℕ) → lines ≡ faulty number at → logText count text ≡ faulty number at
+    line-said number at e = ap conclude (size-passes (logFormat count) text sized ∙ e)
+
+    nothing-said : (k : Known) → lines ≡ accepted k → length (k .steps) ≡ 0 → logText count text ≡ faulty 26 1
+    nothing-said k e z = ap conclude (size-passes (logFormat count) text sized ∙ e) ∙ rw (eq-eqb (length (k .steps)) 0 z) refl
+
+  -- ---- the theorems
+
+  -- The first bad line, and all lines that pass, as the walk has them.
+  walk-line : (number at : ℕ) → lines ≡ faulty number at ↔ FirstBad (judgeLine count) (logFormat count .start) 1 (linesOf text) number at
+  walk-line number at = walk-refuses (judgeLine count) (logFormat count .start) 1 number at (linesOf text)
+
+  walk-all : (k : Known) → lines ≡ accepted k ↔ AllPass (judgeLine count) (logFormat count .start) 1 (linesOf text) k
+  walk-all k = walk-accepts (judgeLine count) (logFormat count .start) k 1 (linesOf text)
+
+  answers : (number at : ℕ) → Refused text count buffer number at → logAnswer text count buffer ≡ refusedAt number at
+  answers number at (short h) = short-answer h
+  answers number at (labels l t) = count-answer l t
+  answers number at (size c t) = said-answer c number at (size-said t)
+  answers number at (line r b) = said-answer (r .called) number at (line-said (r .sized) number at (walk-line number at .1 b))
+  answers number at (nothing k r p z) = said-answer (r .called) number at (nothing-said (r .sized) k (walk-all k .1 p) z)
+
+  -- A refused call leaves the room as it was.
+  pub refused-keeps : (number at : ℕ) → Refused text count buffer number at → logAfter text count buffer ≡ buffer
+  refused-keeps number at (short h) = short-after h
+  refused-keeps number at (labels l t) = count-after l t
+  refused-keeps number at (size c t) = said-after c number at (size-said t)
+  refused-keeps number at (line r b) = said-after (r .called) number at (line-said (r .sized) number at (walk-line number at .1 b))
+  refused-keeps number at (nothing k r p z) = said-after (r .called) number at (nothing-said (r .sized) k (walk-all k .1 p) z)
+
+  numbers : (number at : ℕ) → Refused text count buffer number at → number ≡ 0 → ⊥
+  numbers number at (short h) z = absurd (omega arith)
+  numbers number at (labels l t) z = absurd (omega arith)
+  numbers number at (size c t) z = absurd (omega arith)
+  numbers number at (line r b) z = bad-number (judgeLine count) (line-numbered count) b z
+  numbers number at (nothing k r p e) z = absurd (omega arith)
+
+  -- A call is refused by one of the list's entries, or it is accepted.
+  data Answered : Type 0 where
+    refused-so : (number at : ℕ) → Refused text count buffer number at → Answered
+    accepted-so : logAnswer text count buffer .number ≡ 0 → Answered
+
+  answered : Answered
+  answered = host (ltb (length buffer) bufferLength) refl (badCount count) refl (badSize mostText text) refl
+    where
+      steps : Readable text count buffer → (k : Known) → lines ≡ accepted k → (b : Bool) → eqb (length (k .steps)) 0 ≡ b → Answered
+      steps r k w true z = refused-so 26 1 (nothing k r (walk-all k .0 w) (eqb-true (length (k .steps)) 0 z))
+      steps r k w false z =
+          accepted-so (ap (λ (a : Answer). a .number) (called-answer (r .called) ∙ ap (λ (o : Outcome Known). answerOf (conclude o)) (size-passes (logFormat count) text (r .sized) ∙ w)) ∙ rw z refl)
+
+      walks : Readable text count buffer → (o : Outcome Known) → lines ≡ o → Answered
+      walks r (faulty number at) w = refused-so number at (line r (walk-line number at .0 w))
+      walks r (accepted k) w = steps r k w (eqb (length (k .steps)) 0) refl
+
+      host : (a : Bool) → ltb (length buffer) bufferLength ≡ a → (b : Bool) → badCount count ≡ b → (c : Bool) → badSize mostText text ≡ c → Answered
+      host true x b y c z = refused-so 1 0 (short (ltb-true (length buffer) bufferLength x))
+      host false x true y c z = refused-so 5 0 (labels (ltb-false (length buffer) bufferLength x) (true-yes (badCount count) y))
+      host false x false y true z = refused-so 20 0 (size (record { long = ltb-false (length buffer) bufferLength x; counted = false-no (badCount count) y }) (true-yes (badSize mostText text) z))
+      host false x false y false z =
+          walks (record { called = record { long = ltb-false (length buffer) bufferLength x; counted = false-no (badCount count) y }; sized = false-no (badSize mostText text) z }) lines refl
+
+  refused-by : (number at : ℕ) → logAnswer text count buffer ≡ refusedAt number at → (number ≡ 0 → ⊥) → Refused text count buffer number at
+  refused-by number at e n = go answered
+    where
+      go : Answered → Refused text count buffer number at
+      go (accepted-so z) = absurd (n (sym (ap (λ (a : Answer). a .number) e) ∙ z))
+      go (refused-so m i r) =
+          let q : refusedAt m i ≡ refusedAt number at = sym (answers m i r) ∙ e in
+          subst (λ (x : ℕ). Refused text count buffer x at) (ap (λ (a : Answer). a .number) q)
+          (subst (λ (y : ℕ). Refused text count buffer m y) (ap (λ (a : Answer). a .line) q) r)
+
+  -- A refusal is given if its text in document 01 applies, and only then.
+  pub log-refused : (number at : ℕ) → (logAnswer text count buffer ≡ refusedAt number at) × (number ≡ 0 → ⊥) ↔ Refused text count buffer number at
+  log-refused number at = (λ p. refused-by number at (p .0) (p .1), λ r. (answers number at r, numbers number at r))
+
+  -- A call is accepted just where no refusal applies.
+  pub log-accepted : logAnswer text count buffer .number ≡ 0 ↔ ((number at : ℕ) → Refused text count buffer number at → ⊥)
+  log-accepted = (λ z number at r. numbers number at r (sym (ap (λ (a : Answer). a .number) (answers number at r)) ∙ z), λ f. go f answered)
+    where
+      go : ((number at : ℕ) → Refused text count buffer number at → ⊥) → Answered → logAnswer text count buffer .number ≡ 0
+      go f (accepted-so z) = z
+      go f (refused-so m i r) = absurd (f m i r)
