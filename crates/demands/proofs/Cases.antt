@@ -15,7 +15,6 @@ use Rattle.fields.specs.Fields.{sameBytes}
 use Rattle.numbers.specs.Numbers.{digits, valueFrom, decimal}
 use Rattle.text.specs.Walk.{Outcome, accepted, faulty, walk}
 use Rattle.pattern_header.specs.Header.{sameFields, nameBytes, areNames, among, distinct}
-use Rattle.pattern_row.specs.Fields.{areNumbers as areNumbersIn}
 use Rattle.pattern_order.specs.Row.{followsLast, breaksTurns}
 use Rattle.pattern_store.specs.Next.{statesOf, allWithin, allSingle}
 use Rattle.pattern_store.specs.Format.{Known as PatternKnown, patternText}

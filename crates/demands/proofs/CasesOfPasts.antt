@@ -9,6 +9,7 @@ use native.Mathlib.Omega.{arith}
 use lib.Dec.{T}
 use lib.ListN.{length, getD, take, length-replicate}
 use lib.Seq.{take-all}
+use Rattle.lists.specs.Places.{at}
 use Rattle.sets.specs.Sets.{setOf, someBelow, allBelow, membersFrom}
 use Rattle.sets.proofs.Truth.{true-yes}
 use Rattle.lists.specs.Tables.{table}
@@ -19,7 +20,6 @@ use Rattle.numbers.specs.Numbers.{digits, valueFrom, decimal}
 use Rattle.text.specs.Walk.{Outcome, accepted, faulty, walk}
 use Rattle.pattern_line.specs.Limits.{ruleAt, bufferLength as patternLength}
 use Rattle.pattern_header.specs.Header.{sameFields, nameBytes, areNames, among, distinct}
-use Rattle.pattern_row.specs.Fields.{areNumbers as areNumbersIn}
 use Rattle.pattern_order.specs.Row.{followsLast, breaksTurns}
 use Rattle.pattern_store.specs.Next.{statesOf, allWithin, allSingle}
 use Rattle.pattern_store.specs.Format.{Known as PatternKnown, patternText}
@@ -32,7 +32,7 @@ use Rattle.numbers.specs.Listed.{areNumbers}
 use Rattle.log_line.specs.Step.{risingBelow, linkCount}
 use Rattle.log_line.specs.Format.{Known as LogKnown, logText}
 use Rattle.log_store.specs.Buffer.{begins, links, bufferOf as logBuffer}
-use Rattle.log_buffer.specs.Meaning.{at, stepsIn, logOf}
+use Rattle.log_buffer.specs.Meaning.{stepsIn, logOf}
 use Rattle.log_texts.proofs.LogBuffers.{given-passes}
 use Rattle.log_buffer.proofs.Meaning.{size-is, log-well-formed}
 use Rattle.necklace.specs.Dag.{Dag, WellFormed}
@@ -120,11 +120,11 @@ unfolding listing-log shorter-log walk asLines split printable sameBytes digits 
 other-boards = refl
 
 three : (labelsBy (patternText listing-pattern) ≡ 3) × (labelsBy (patternText some-clean) ≡ 3)
-unfolding listing-pattern some-clean walk asLines split printable sameBytes digits valueFrom decimal sameFields nameBytes areNames among distinct followsLast breaksTurns statesOf allWithin allSingle beadCount membersFrom
+unfolding listing-pattern some-clean walk asLines split printable sameBytes digits valueFrom decimal sameFields nameBytes areNames among distinct followsLast breaksTurns statesOf allWithin allSingle beadCount membersFrom areNumbers
 three = (refl, refl)
 
 some-one : (beadsIn (patternFrom some-clean) ≡ 1) × (at (patternFrom some-clean) (ruleAt 0) ≡ 1)
-unfolding some-clean walk asLines split printable sameBytes digits valueFrom decimal sameFields nameBytes areNames among distinct followsLast breaksTurns statesOf allWithin allSingle beadCount membersFrom table ruleOfBead
+unfolding some-clean walk asLines split printable sameBytes digits valueFrom decimal sameFields nameBytes areNames among distinct followsLast breaksTurns statesOf allWithin allSingle beadCount membersFrom table ruleOfBead areNumbers
 some-one = (refl, refl)
 
 alike-computed : alike? (logOf (logFrom listing-log)) (logOf (logFrom shorter-log)) 5 ≡ true

@@ -74,12 +74,6 @@ fn judge_arrays(
     finish(beads, n, &prefixes, &pivots, result)
 }
 
-fn wide(x: u16) -> usize
-    ensures { λ r. ⌜ r ≡ x ⌝ }
-{
-    x as usize
-}
-
 // Judges buffers that passed their tests, and leaves zeros in the work buffer.
 fn judge_tried(pattern: &[u16], log: &[u16], result: &mut [u16], work: &mut [u16]) -> u16
     requires { ⌜ Tried (now pattern) (now log) ⌝ }
@@ -89,7 +83,7 @@ fn judge_tried(pattern: &[u16], log: &[u16], result: &mut [u16], work: &mut [u16
     ensures { λ _. ⌜ now (work .exit) ≡ replicate (length (now (work .entry))) 0 ⌝ }
 {
     let beads = pattern[1];
-    let n = wide(log[0]);
+    let n = lists::wide(log[0]);
     let count = judge_arrays(pattern, log, beads, n, result, work);
     backward::clear(work);
     count
