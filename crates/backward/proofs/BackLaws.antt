@@ -1,6 +1,6 @@
 -- The backward pass over sets as numbers: what is left of it gives the whole answer.
-use Prim.Native.Nat.{ℕ, zero, suc, _-_, _≤_, _<_}
-use mathlib.Core.Path.{_≡_, refl, sym, ap, ap₂, _∙_}
+use Prim.Native.Nat.{ℕ, _-_, _≤_, _<_}
+use mathlib.Core.Path.{_≡_, sym, ap, ap₂, _∙_}
 use mathlib.Core.Bool.{Bool, true, false, _&&_, _||_}
 use mathlib.Core.List.{List, [], _∷_}
 use native.Mathlib.Decide.{ℕ-discrete}
@@ -9,8 +9,9 @@ use borrow.Author.Tests.{eq-eqb, ne-eqb}
 use lib.Dec.{eqb}
 use lib.ListN.{length, getD, set, replicate, length-replicate}
 use lib.Seq.{getD-set-same, getD-set-other}
+use Rattle.lists.proofs.Tables.{zeros-at}
 use Rattle.sets.specs.Sets.{member, setOf}
-use Rattle.sets.proofs.Truth.{no-false, false-no}
+use Rattle.sets.proofs.Truth.{no-false, false-no, or-none}
 use Rattle.sets.proofs.Bits.{member-empty}
 use Rattle.sets.proofs.Laws.{member-setOf}
 use Rattle.necklace.specs.Automaton.{Automaton}
@@ -84,12 +85,7 @@ module _ (log work : List ℕ) (F v : ℕ) where
     back-skip e = turn x l l some inv (λ b j d w q k.
         sym (ap (λ (c : Bool). member q (getD l w 0) || (elem w (logOf log .preds x) && c))
         (enters-empty (automatonOf b j) (logOf log .labels x) (family l x) q (λ r. ap (member r) e ∙ member-empty r))
-        ∙ nothing (member q (getD l w 0)) (elem w (logOf log .preds x))))
-      where
-        nothing : (a b : Bool) → (a || (b && false)) ≡ a
-        nothing true b = refl
-        nothing false true = refl
-        nothing false false = refl
+        ∙ or-none (member q (getD l w 0)) (elem w (logOf log .preds x))))
 
   pub back-start : (old l : List ℕ) → v < stepsIn log → Laid log → 1024 ≤ length old → l ≡ set (replicate (length old) 0) v F → Left log work F v v l
   back-start old l h laid long e = record {
@@ -101,11 +97,6 @@ module _ (log work : List ℕ) (F v : ℕ) where
       none : List ℕ
       none = replicate (length old) 0
 
-      zeros : (n i : ℕ) → _≡_ {A = ℕ} (getD (replicate n 0) i 0) 0
-      zeros zero i = refl
-      zeros (suc n) zero = refl
-      zeros (suc n) (suc i) = zeros n i
-
       inside : v < length none
       inside = let f = laid .few in rw (length-replicate {A = ℕ} (length old) 0) (omega arith)
 
@@ -114,7 +105,7 @@ module _ (log work : List ℕ) (F v : ℕ) where
         where
           go : Dec (w ≡ v) → family (set none v F) w q ≡ (eqb w v && member q F)
           go (yes z) = rw (eq-eqb w v z) (ap (member q) (ap (λ (i : ℕ). getD (set none v F) i 0) z ∙ getD-set-same none v F 0 inside))
-          go (no n) = rw (ne-eqb w v n) (ap (member q) (getD-set-other none v w F 0 n ∙ zeros (length old) w) ∙ member-empty q)
+          go (no n) = rw (ne-eqb w v n) (ap (member q) (getD-set-other none v w F 0 n ∙ zeros-at (length old) w) ∙ member-empty q)
 
   pub back-end : (x : ℕ) (l : List ℕ) → x ≤ 0 → Left log work F v x l → PassedBy log work F v l
   back-end x l h d = record {

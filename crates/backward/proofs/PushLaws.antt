@@ -1,7 +1,7 @@
 -- Adding a set to the sets of the predecessors of a step, link by link.
 use Prim.Native.Nat.{ℕ, _+_, _-_, _*_, _^_, _≤_, _<_, min}
 use mathlib.Core.Path.{_≡_, refl, sym, ap, _∙_}
-use mathlib.Core.Bool.{Bool, true, false, _&&_, _||_}
+use mathlib.Core.Bool.{Bool, true, false, _&&_, _||_, or-false, or-assoc}
 use mathlib.Core.List.{List, [], _∷_, _++_}
 use native.Mathlib.Decide.{ℕ-discrete}
 use native.Mathlib.Numerals.{add-one}
@@ -10,34 +10,23 @@ use borrow.Author.Tests.{eq-eqb, ne-eqb}
 use lib.Dec.{eqb}
 use lib.ListN.{length, getD, set, take, drop, length-take}
 use lib.Seq.{getD-set-same, getD-set-other, take-all, take-suc, getD-take, getD-drop}
+use Rattle.lists.specs.Places.{at}
 use Rattle.sets.specs.Sets.{member, union}
 use Rattle.sets.proofs.Laws.{member-union}
 use Rattle.necklace.specs.Compute.{elem}
 use Rattle.log_line.specs.Limits.{beginAt, linkAt}
-use Rattle.log_buffer.specs.Meaning.{at, stepsIn, linksInto}
+use Rattle.log_buffer.specs.Meaning.{stepsIn, linksInto}
 use Rattle.step_table.specs.Table.{Laid}
 use Rattle.backward.specs.Backward.{Begins, Inside, Pushed}
 
 -- ---- one vertex more
 
 elem-last : (w u : ℕ) (ls : List ℕ) → elem w (ls ++ (u ∷ [])) ≡ (elem w ls || eqb w u)
-elem-last w u [] = go (eqb w u)
-  where
-    go : (b : Bool) → (b || false) ≡ b
-    go true = refl
-    go false = refl
-elem-last w u (x ∷ ls) = ap (λ (b : Bool). eqb w x || b) (elem-last w u ls) ∙ go (eqb w x) (elem w ls) (eqb w u)
-  where
-    go : (a b c : Bool) → (a || (b || c)) ≡ ((a || b) || c)
-    go true b c = refl
-    go false b c = refl
+elem-last w u [] = or-false (eqb w u)
+elem-last w u (x ∷ ls) = ap (λ (b : Bool). eqb w x || b) (elem-last w u ls) ∙ sym (or-assoc (eqb w x) (elem w ls) (eqb w u))
 
 pushed-none : (t : ℕ) (l : List ℕ) → Pushed [] t l l
-pushed-none t l = record { sets = λ w q h. go (member q (getD l w 0)) }
-  where
-    go : (b : Bool) → b ≡ (b || false)
-    go true = refl
-    go false = refl
+pushed-none t l = record { sets = λ w q h. sym (or-false (member q (getD l w 0))) }
 
 pushed-more : (ls : List ℕ) (u t v : ℕ) (old l : List ℕ) → Pushed ls t old l → u < length l → v ≡ union 16 (getD l u 0) t
     → Pushed (ls ++ (u ∷ [])) t old (set l u v)
@@ -51,9 +40,7 @@ pushed-more ls u t v old l p h e = record { sets = λ w q k. at-last w q k (ℕ-
     yes-last false false false = refl
 
     no-last : (a b c : Bool) → (a || (b && c)) ≡ (a || ((b || false) && c))
-    no-last true b c = refl
-    no-last false true c = refl
-    no-last false false c = refl
+    no-last a b c = ap (λ (t : Bool). a || (t && c)) (sym (or-false b))
 
     at-last : (w q : ℕ) → q < 16 → Dec (w ≡ u)
         → member q (getD (set l u v) w 0) ≡ (member q (getD old w 0) || (elem w (ls ++ (u ∷ [])) && member q t))

@@ -4,12 +4,13 @@ use mathlib.Core.Path.{_≡_}
 use mathlib.Core.Bool.{_&&_, _||_}
 use mathlib.Core.List.{List}
 use lib.ListN.{length, getD}
+use Rattle.lists.specs.Places.{at}
 use Rattle.sets.specs.Sets.{member}
 use Rattle.necklace.specs.Dag.{Dag}
 use Rattle.necklace.specs.Automaton.{Automaton}
 use Rattle.necklace.specs.Compute.{elem, enters, backward}
 use Rattle.log_line.specs.Limits.{mostLinks, beginAt}
-use Rattle.log_buffer.specs.Meaning.{at, stepsIn, logOf}
+use Rattle.log_buffer.specs.Meaning.{stepsIn, logOf}
 use Rattle.pattern_buffer.specs.Meaning.{automatonOf}
 use Rattle.step_table.specs.Table.{Tabled}
 

@@ -18,12 +18,6 @@ pub fn clear(list: &mut [u16])
     }
 }
 
-fn wide(x: u16) -> usize
-    ensures { λ r. ⌜ r ≡ x ⌝ }
-{
-    x as usize
-}
-
 // Adds the set to the set of each listed step.
 fn add_to_all(links: &[u16], set: u16, states: &mut [u16])
     requires { ⌜ Inside (length (now states)) (now links) ⌝ }
@@ -31,7 +25,7 @@ fn add_to_all(links: &[u16], set: u16, states: &mut [u16])
 {
     let mut i = 0;
     while i < links.len() {
-        let u = wide(links[i]);
+        let u = lists::wide(links[i]);
         states[u] = sets::union(states[u], set);
         i += 1;
     }
@@ -43,7 +37,7 @@ pub fn begin(log: &[u16], v: usize) -> usize
     requires { ⌜ v ≤ stepsIn (now log) ⌝ }
     ensures { λ r. ⌜ Begins (now (log .entry)) v r ⌝ }
 {
-    wide(log[2049 + v])
+    lists::wide(log[2049 + v])
 }
 
 // Adds the set to the set of each predecessor of the step x.

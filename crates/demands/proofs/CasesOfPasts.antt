@@ -9,6 +9,7 @@ use native.Mathlib.Omega.{arith}
 use lib.Dec.{T}
 use lib.ListN.{length, getD, take, length-replicate}
 use lib.Seq.{take-all}
+use Rattle.lists.specs.Places.{at}
 use Rattle.sets.specs.Sets.{setOf, someBelow, allBelow, membersFrom}
 use Rattle.sets.proofs.Truth.{true-yes}
 use Rattle.lists.specs.Tables.{table}
@@ -31,7 +32,7 @@ use Rattle.numbers.specs.Listed.{areNumbers}
 use Rattle.log_line.specs.Step.{risingBelow, linkCount}
 use Rattle.log_line.specs.Format.{Known as LogKnown, logText}
 use Rattle.log_store.specs.Buffer.{begins, links, bufferOf as logBuffer}
-use Rattle.log_buffer.specs.Meaning.{at, stepsIn, logOf}
+use Rattle.log_buffer.specs.Meaning.{stepsIn, logOf}
 use Rattle.log_texts.proofs.LogBuffers.{given-passes}
 use Rattle.log_buffer.proofs.Meaning.{size-is, log-well-formed}
 use Rattle.necklace.specs.Dag.{Dag, WellFormed}

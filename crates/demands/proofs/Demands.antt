@@ -10,6 +10,7 @@ use native.Mathlib.Decide.{decLt}
 use borrow.Author.Tests.{lt-ltb, le-ltb}
 use lib.Dec.{T, eqb, ltb, leb→le}
 use lib.ListN.{length, getD, take, drop}
+use Rattle.lists.specs.Places.{at}
 use Rattle.sets.specs.Sets.{member, members, complement, setOf}
 use Rattle.sets.proofs.Laws.{member-complement, setOf-above}
 use Rattle.sets.proofs.Truth.{no-false}
@@ -24,7 +25,7 @@ use Rattle.necklace.proofs.OnlyAdds as OnlyAdds
 use Rattle.necklace.proofs.Duality.{dual-rows}
 use Rattle.pattern_line.specs.Limits.{mostStates, ruleAt, statesAt, acceptingAt, nextAt, bufferLength as patternLength}
 use Rattle.log_line.specs.Limits.{bufferLength as logLength}
-use Rattle.pattern_buffer.specs.Meaning.{at, labelsIn, beadsIn, modalityOf, automatonOf, patternOf}
+use Rattle.pattern_buffer.specs.Meaning.{labelsIn, beadsIn, modalityOf, automatonOf, patternOf}
 use Rattle.pattern_buffer.specs.Valid.{isPattern}
 use Rattle.pattern_buffer.proofs.Meaning.{pattern-well-formed}
 use Rattle.log_buffer.specs.Meaning.{logOf}

@@ -2,9 +2,9 @@
 -- `Exchanged` between the two. So the dual property speaks of every such pattern.
 -- Assumes nothing.
 use Prim.Native.Nat.{ℕ, zero, suc, _-_, _^_, _≤_, _<_}
-use mathlib.Core.Path.{_≡_, refl, sym, ap, ap₂, _∙_, subst}
+use mathlib.Core.Path.{_≡_, sym, ap, ap₂, _∙_, subst}
 use mathlib.Core.Logic.{_⊎_, inl, inr, _↔_, _≢_}
-use mathlib.Core.Bool.{Bool, true, false, not}
+use mathlib.Core.Bool.{not, Bool·not-not}
 use mathlib.Core.List.{List}
 use native.Mathlib.Omega.{arith}
 use native.Mathlib.Decide.{ℕ-discrete}
@@ -12,12 +12,13 @@ use lib.Dec.{T, eqb-refl, T-not}
 use lib.ListN.{length, set, take, length-set}
 use lib.Pow.{pow-mono}
 use lib.Seq.{getD-set-same, getD-set-other, getD-take, take-set-lt}
+use Rattle.lists.specs.Places.{at}
 use Rattle.sets.specs.Sets.{member, complement, single}
 use Rattle.sets.proofs.Laws.{ext, complement-below, member-complement, single-count}
 use Rattle.sets.proofs.Truth.{decide}
 use Rattle.necklace.specs.Automaton.{OneNext}
 use Rattle.pattern_line.specs.Limits.{mostBeads, mostStates, mostLabels, ruleAt, statesAt, acceptingAt, nextAt, bufferLength as patternLength}
-use Rattle.pattern_buffer.specs.Meaning.{at, labelsIn, beadsIn, automatonOf}
+use Rattle.pattern_buffer.specs.Meaning.{labelsIn, beadsIn, automatonOf}
 use Rattle.pattern_buffer.specs.Valid.{isPattern}
 use Rattle.pattern_buffer.proofs.Places.{Bead, Unused, Next, Passes, passes-out, passes-in, bead-there, next-there, unused-out, bead-in, next-in, next-unused}
 use Rattle.pattern_buffer.proofs.OneNext.{one-next}
@@ -30,11 +31,7 @@ use Rattle.demands.proofs.Demands.{dual}
 complement-twice : (n s : ℕ) → s < 2 ^ n → complement n (complement n s) ≡ s
 complement-twice n s h =
     ext n (complement n (complement n s)) s (complement-below n (complement n s)) h
-    (λ i l. member-complement n (complement n s) i l ∙ ap not (member-complement n s i l) ∙ twice (member i s))
-  where
-    twice : (b : Bool) → not (not b) ≡ b
-    twice true = refl
-    twice false = refl
+    (λ i l. member-complement n (complement n s) i l ∙ ap not (member-complement n s i l) ∙ Bool·not-not (member i s))
 
 -- ---- the places of the exchanged buffer
 

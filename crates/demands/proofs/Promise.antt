@@ -10,6 +10,7 @@ use borrow.Author.Tests.{ltb-true, ltb-false}
 use lib.Dec.{T, ltb}
 use lib.ListN.{length, getD, take, drop, replicate, length-append, length-drop, length-replicate, getD-replicate, List·getD-append}
 use lib.Seq.{take-take, length-take-le, drop-at, getD-take, getD-append-add}
+use Rattle.sets.proofs.Truth.{true-yes, false-no}
 use Rattle.answer.specs.declared.Answer.{Answer}
 use Rattle.answer.specs.Answers.{acceptedWith, refusedAt}
 use Rattle.answer.specs.Faults.{Fault, firstFault, answerOr, keptOr}
@@ -198,12 +199,6 @@ module _ (pattern log result work : List ℕ) where
   never : {A : Type 0} → (n : ℕ) → n < n → A
   never n h = absurd (omega arith)
 
-  yes-of : (b : Bool) → b ≡ true → T b
-  yes-of b e = subst T (sym e) tt
-
-  no-of : (b : Bool) → b ≡ false → T b → ⊥
-  no-of b e t = subst T e t
-
   pub judge-promise : Promise pattern log result work (judgeAnswer pattern log result work) (resultAfter pattern log result work) (workAfter pattern log result work)
   judge-promise =
       go (ltb (length log) logLength) refl (ltb (length pattern) patternLength) refl (ltb (length result) resultLength) refl
@@ -237,16 +232,16 @@ module _ (pattern log result work : List ℕ) where
           let result-long = ltb-false (length result) resultLength ec in
           let work-long = ltb-false (length work) workLength ed in
           refuse 6 (first-later _ _ _ _ ea (first-later _ _ _ _ eb (first-later _ _ _ _ ec (first-later _ _ _ _ ed (first-here _ _ _ (ap not ee))))))
-          (no-pattern (λ g. no-of (isPattern (take patternLength pattern)) ee (given-is pattern pattern-long g)))
+          (no-pattern (λ g. false-no (isPattern (take patternLength pattern)) ee (given-is pattern pattern-long g)))
           (none-below 6 (λ l. long) (λ l. pattern-long) (λ l. result-long) (λ l. work-long) (λ l. absurd (omega arith)) (λ l. absurd (omega arith)))
       go false ea false eb false ec false ed true ee false ef =
           let long = ltb-false (length log) logLength ea in
           let pattern-long = ltb-false (length pattern) patternLength eb in
           let result-long = ltb-false (length result) resultLength ec in
           let work-long = ltb-false (length work) workLength ed in
-          let t = yes-of (isPattern (take patternLength pattern)) ee in
+          let t = true-yes (isPattern (take patternLength pattern)) ee in
           refuse 7 (first-later _ _ _ _ ea (first-later _ _ _ _ eb (first-later _ _ _ _ ec (first-later _ _ _ _ ed (first-later _ _ _ _ (ap not ee) (first-here _ _ _ (ap not ef)))))))
-          (no-log (λ g. no-of (isLog (labelsIn (take patternLength pattern)) (take logLength log)) ef (log-given-is pattern pattern-long log long t g)))
+          (no-log (λ g. false-no (isLog (labelsIn (take patternLength pattern)) (take logLength log)) ef (log-given-is pattern pattern-long log long t g)))
           (none-below 7 (λ l. long) (λ l. pattern-long) (λ l. result-long) (λ l. work-long) (λ l. is-given pattern pattern-long t) (λ l. absurd (omega arith)))
       go false ea false eb false ec false ed true ee true ef =
           accept (record {
@@ -254,8 +249,8 @@ module _ (pattern log result work : List ℕ) where
             pattern-long = ltb-false (length pattern) patternLength eb;
             result-long = ltb-false (length result) resultLength ec;
             work-long = ltb-false (length work) workLength ed;
-            is-pattern = yes-of (isPattern (take patternLength pattern)) ee;
-            is-log = yes-of (isLog (labelsIn (take patternLength pattern)) (take logLength log)) ef;
+            is-pattern = true-yes (isPattern (take patternLength pattern)) ee;
+            is-log = true-yes (isLog (labelsIn (take patternLength pattern)) (take logLength log)) ef;
           })
 
   -- ---- 6 and 7, given the lengths
@@ -322,8 +317,8 @@ module _ (pattern log result work : List ℕ) where
         not-six f = go (isPattern (take patternLength pattern)) refl
           where
             go : (b : Bool) → isPattern (take patternLength pattern) ≡ b → GivenPattern pattern
-            go true e = is-given pattern pattern-long (yes-of (isPattern (take patternLength pattern)) e)
-            go false e = absurd (f (λ g. no-of (isPattern (take patternLength pattern)) e (given-is pattern pattern-long g)))
+            go true e = is-given pattern pattern-long (true-yes (isPattern (take patternLength pattern)) e)
+            go false e = absurd (f (λ g. false-no (isPattern (take patternLength pattern)) e (given-is pattern pattern-long g)))
 
         out : Promise pattern log result work (judgeAnswer pattern log result work) (resultAfter pattern log result work) (workAfter pattern log result work)
             → judgeAnswer pattern log result work ≡ refusedAt 7 0 → GivenPattern pattern × (GivenLog (labelsIn pattern) log → ⊥)

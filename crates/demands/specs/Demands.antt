@@ -4,9 +4,10 @@ use mathlib.Core.Path.{_≡_}
 use mathlib.Core.Bool.{Bool, cond}
 use mathlib.Core.List.{List}
 use lib.ListN.{getD, set}
+use Rattle.lists.specs.Places.{at}
 use Rattle.sets.specs.Sets.{member, complement}
 use Rattle.pattern_line.specs.Limits.{ruleAt, statesAt, acceptingAt}
-use Rattle.pattern_buffer.specs.Meaning.{at, labelsIn, beadsIn}
+use Rattle.pattern_buffer.specs.Meaning.{labelsIn, beadsIn}
 use Rattle.results.specs.Result.{rowIn}
 
 -- Under a pattern of one bead the rule holds at a step if bit 0 is set in its row.

@@ -5,12 +5,13 @@
 use Prim.Native.Nat.{ℕ, zero, suc, _+_, _-_, _≤_, _<_}
 use mathlib.Core.Path.{_≡_, refl, sym, ap, ap₂, _∙_, subst}
 use mathlib.Core.Logic.{_⊎_, inl, inr}
-use mathlib.Core.Bool.{Bool, true, false, not, _&&_, _||_}
+use mathlib.Core.Bool.{Bool, true, false, not, _&&_, _||_, or-false}
 use mathlib.Core.List.{List, [], _∷_}
 use native.Mathlib.Decide.{ℕ-discrete}
 use native.Mathlib.Omega.{arith}
 use borrow.Author.Tests.{eq-eqb, ne-eqb}
 use lib.Dec.{T, eqb, ltb, eqb→eq, eqb-refl}
+use Rattle.sets.proofs.Agree.{someBelow-ext}
 use Rattle.sets.specs.Sets.{_∈_, someBelow}
 use Rattle.sets.proofs.Truth.{same, or-cases, and-i, and-l, and-r}
 use Rattle.sets.proofs.Laws.{someBelow-out, someBelow-in}
@@ -18,16 +19,11 @@ use Rattle.necklace.specs.Dag.{Dag, WellFormed, DagPath, here, edge, Reading, d
 use Rattle.necklace.specs.Automaton.{Automaton, Run, stay, move, exchange}
 use Rattle.necklace.specs.Compute.{someOf, elem, backward, some?, all?}
 use Rattle.necklace.proofs.Lists.{someOf-out, someOf-in, someOf-ext, elem-out, elem-in}
-use Rattle.necklace.proofs.Backward.{Leads, backward-sound, backward-complete}
+use Rattle.necklace.proofs.Backward.{Leads, backward-sound, backward-complete, leads-bare, leads-letter}
 use Rattle.step_table.specs.Table.{reached}
-use Rattle.step_table.proofs.SetLaws.{someBelow-ext}
 use Rattle.forward.specs.Forward.{arrives, ahead, forward}
 
 -- ---- the sets of the pass
-
-or-false : (b : Bool) → (b || false) ≡ b
-or-false true = refl
-or-false false = refl
 
 -- Sets that agree at the states below 16 are entered alike.
 pub arrives-ext : (G : Dag) (A : Automaton) (f g : ℕ → ℕ → Bool) → ((w q : ℕ) → q < 16 → f w q ≡ g w q) → (x r : ℕ) → arrives G A f x r ≡ arrives G A g x r
@@ -86,31 +82,10 @@ module _ (G : Dag) (A : Automaton) (F : ℕ → Bool) (v u : ℕ) where
 
   step-back : (x w q r : ℕ) (ls : List ℕ) → G .labels x ≡ ls → w ∈ G .preds x → T (reached A ls q r) → Leads G A F v x r → Leads G A F v w q
   step-back x w q r [] e m t k =
-      let z = eqb→eq r q t in
-      let l = k .1 in (
-        x ∷ k .0,
-        record {
-          path = edge m (l .path);
-          word = l .word;
-          reading = silent e (l .reading);
-          last = l .last;
-          run = subst (λ (s : ℕ). Run (A .next) s (l .word) (l .last)) z (l .run);
-          inside = l .inside;
-        },
-      )
+      leads-bare G A F v x w q e m (subst (Leads G A F v x) (eqb→eq r q t) k)
   step-back x w q r (a ∷ ls) e m t k =
       let b = someOf-out (λ b. elem r (A .next q b)) (a ∷ ls) t in
-      let l = k .1 in (
-        x ∷ k .0,
-        record {
-          path = edge m (l .path);
-          word = b .0 ∷ l .word;
-          reading = letter {x = x} {a = b .0} (rw e (b .1)) (l .reading);
-          last = l .last;
-          run = move (elem-out r (A .next q (b .0)) (b .2)) (l .run);
-          inside = l .inside;
-        },
-      )
+      leads-letter G A F v x w q r (b .0) (rw e (b .1)) m (elem-out r (A .next q (b .0)) (b .2)) k
 
   arrives-sound : (sets : ℕ → ℕ → Bool) → Sound sets → (x r : ℕ) → T (arrives G A sets x r) → Leads G A F v x r → Leads G A F v u 0
   arrives-sound sets h x r t k =

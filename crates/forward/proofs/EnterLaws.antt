@@ -1,16 +1,16 @@
 -- The states that entering a step reaches from a set, state by state.
 use Prim.Native.Nat.{ℕ, _+_, _≤_, _<_}
-use mathlib.Core.Path.{_≡_, refl, sym, ap, _∙_}
-use mathlib.Core.Bool.{Bool, true, false, _&&_, _||_}
+use mathlib.Core.Path.{_≡_, sym, ap, _∙_}
+use mathlib.Core.Bool.{Bool, true, false, _&&_, _||_, or-false}
 use mathlib.Core.List.{List}
 use native.Mathlib.Omega.{arith}
 use lib.ListN.{getD}
+use Rattle.sets.proofs.Agree.{setOf-ext, setOf-empty}
 use Rattle.sets.specs.Sets.{member, setOf, union, someBelow}
 use Rattle.sets.proofs.Truth.{and-l, no-false, false-no}
 use Rattle.sets.proofs.Bits.{member-empty}
 use Rattle.sets.proofs.Laws.{member-setOf, someBelow-none, someBelow-more, someBelow-out}
 use Rattle.step_table.specs.Table.{workAt}
-use Rattle.step_table.proofs.SetLaws.{setOf-ext, setOf-empty}
 use Rattle.forward.specs.Pass.{enteredBy}
 
 -- The states reached from the states of a set below a.
@@ -47,10 +47,6 @@ module _ (work : List ℕ) (x set : ℕ) where
         inv ∙ setOf-ext 16 (enteredTo work x set a) (enteredTo work x set (a + 1))
         (λ i l. sym (more i ∙ ap (λ (t : Bool). enteredTo work x set a i || (t && member i (getD work (workAt x a) 0))) (sym e ∙ y)
         ∙ or-false (enteredTo work x set a i)))
-      where
-        or-false : (t : Bool) → (t || false) ≡ t
-        or-false true = refl
-        or-false false = refl
 
     pub enter-end : a ≤ 16 → 16 ≤ a → all ≡ setOf 16 (enteredBy work x set)
     enter-end h k = let e : a ≡ 16 = omega arith in rw e at inv

@@ -1,34 +1,26 @@
 -- The union of the sets of listed vertices, vertex by vertex.
 use Prim.Native.Nat.{ℕ, _+_, _-_, _*_, _^_, _≤_, _<_}
 use mathlib.Core.Path.{_≡_, refl, sym, ap, _∙_}
-use mathlib.Core.Bool.{Bool, true, false, _||_}
+use mathlib.Core.Bool.{Bool, _||_, or-false, or-assoc}
 use mathlib.Core.List.{List, [], _∷_, _++_}
 use native.Mathlib.Numerals.{add-one}
 use native.Mathlib.Omega.{arith}
 use lib.ListN.{length, getD, take, drop}
 use lib.Seq.{take-all, take-suc}
+use Rattle.sets.proofs.Agree.{setOf-ext, setOf-empty}
 use Rattle.sets.specs.Sets.{member, setOf, union}
 use Rattle.sets.proofs.Laws.{member-setOf}
 use Rattle.necklace.specs.Compute.{someOf}
 use Rattle.log_line.specs.Limits.{linkAt}
 use Rattle.log_buffer.specs.Meaning.{stepsIn, linksInto}
 use Rattle.step_table.specs.Table.{Laid}
-use Rattle.step_table.proofs.SetLaws.{setOf-ext, setOf-empty}
 use Rattle.backward.specs.Backward.{Begins, Inside}
 use Rattle.backward.proofs.PushLaws.{links-order, links-inside, links-are}
 use Rattle.forward.specs.Pass.{gathered}
 
 someOf-last : (f : ℕ → Bool) (u : ℕ) (ls : List ℕ) → someOf f (ls ++ (u ∷ [])) ≡ (someOf f ls || f u)
-someOf-last f u [] = go (f u)
-  where
-    go : (b : Bool) → (b || false) ≡ b
-    go true = refl
-    go false = refl
-someOf-last f u (x ∷ ls) = ap (λ (b : Bool). f x || b) (someOf-last f u ls) ∙ go (f x) (someOf f ls) (f u)
-  where
-    go : (a b c : Bool) → (a || (b || c)) ≡ ((a || b) || c)
-    go true b c = refl
-    go false b c = refl
+someOf-last f u [] = or-false (f u)
+someOf-last f u (x ∷ ls) = ap (λ (b : Bool). f x || b) (someOf-last f u ls) ∙ sym (or-assoc (f x) (someOf f ls) (f u))
 
 pub gather-none : (links states : List ℕ) → 0 ≡ setOf 16 (gathered states (take 0 links))
 gather-none links states = sym (setOf-empty 16 (gathered states (take 0 links)) (λ q l. refl))

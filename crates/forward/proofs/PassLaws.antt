@@ -1,42 +1,30 @@
 -- The forward pass over sets as numbers: after each turn the sets are those of the theory's pass.
-use Prim.Native.Nat.{ℕ, zero, suc, _+_, _-_, _≤_, _<_}
-use mathlib.Core.Path.{_≡_, refl, sym, ap, ap₂, _∙_, subst}
+use Prim.Native.Nat.{ℕ, suc, _+_, _-_, _≤_, _<_}
+use mathlib.Core.Path.{_≡_, sym, ap, ap₂, _∙_}
 use mathlib.Core.Bool.{Bool, true, _&&_}
 use mathlib.Core.List.{List}
 use native.Mathlib.Decide.{ℕ-discrete}
 use native.Mathlib.Omega.{arith}
 use borrow.Author.Tests.{eq-eqb, ne-eqb}
-use lib.Dec.{T, eqb, eqb→eq, eqb-refl}
+use lib.Dec.{eqb}
 use lib.ListN.{length, getD, set, replicate, length-replicate}
 use lib.Seq.{getD-set-same, getD-set-other}
+use Rattle.sets.proofs.Agree.{someBelow-ext, someBelow-is}
+use Rattle.lists.proofs.Tables.{zeros-at}
 use Rattle.sets.specs.Sets.{member, setOf, someBelow}
 use Rattle.sets.proofs.Bits.{member-empty}
-use Rattle.sets.proofs.Truth.{same, and-i, and-l, and-r}
-use Rattle.sets.proofs.Laws.{member-setOf, member-singleton, someBelow-out, someBelow-in}
+use Rattle.sets.proofs.Laws.{member-setOf, member-singleton}
 use Rattle.necklace.specs.Compute.{someOf}
 use Rattle.pattern_buffer.specs.Meaning.{automatonOf}
 use Rattle.log_buffer.specs.Meaning.{stepsIn, linksInto, logOf}
 use Rattle.log_buffer.proofs.Meaning.{preds-are}
 use Rattle.step_table.specs.Table.{reached, workAt, Tabled, Laid, BareIf}
-use Rattle.step_table.proofs.SetLaws.{someBelow-ext}
 use Rattle.backward.proofs.BackLaws.{family}
 use Rattle.forward.specs.Forward.{arrives, ahead}
 use Rattle.forward.specs.Pass.{gathered, enteredBy, Arrived, ForwardedBy}
 use Rattle.forward.proofs.Agrees.{arrives-ext, ahead-first, ahead-other, ahead-turn, settled}
 
 -- ---- the set of one step
-
--- the numbers below n that pass and are r: r, if it passes
-someBelow-is : (n : ℕ) (f : ℕ → Bool) (r : ℕ) → r < n → someBelow n (λ q. f q && eqb r q) ≡ f r
-someBelow-is n f r h = same (someBelow n (λ q. f q && eqb r q)) (f r) forth back
-  where
-    forth : T (someBelow n (λ q. f q && eqb r q)) → T (f r)
-    forth t =
-        let s = someBelow-out n (λ q. f q && eqb r q) t in
-        subst (λ (q : ℕ). T (f q)) (sym (eqb→eq r (s .0) (and-r (f (s .0)) (eqb r (s .0)) (s .2)))) (and-l (f (s .0)) (eqb r (s .0)) (s .2))
-
-    back : T (f r) → T (someBelow n (λ q. f q && eqb r q))
-    back t = someBelow-in n (λ q. f q && eqb r q) r h (and-i (f r) (eqb r r) t (eqb-refl r))
 
 module _ (log work states : List ℕ) (x set : ℕ) (inside : x < stepsIn log) (es : set ≡ setOf 16 (gathered states (linksInto log x))) where
   -- the states of the predecessors
@@ -79,11 +67,6 @@ module _ (log work : List ℕ) (u : ℕ) where
       none : List ℕ
       none = replicate (length old) 0
 
-      zeros : (n i : ℕ) → _≡_ {A = ℕ} (getD (replicate n 0) i 0) 0
-      zeros zero i = refl
-      zeros (suc n) zero = refl
-      zeros (suc n) (suc i) = zeros n i
-
       inside : u < length none
       inside = let f = laid .few in rw (length-replicate {A = ℕ} (length old) 0) (omega arith)
 
@@ -93,7 +76,7 @@ module _ (log work : List ℕ) (u : ℕ) where
           go : Dec (w ≡ u) → family (set none u 1) w q ≡ (eqb w u && eqb q 0)
           go (yes z) =
               rw (eq-eqb w u z) (ap (member q) (ap (λ (i : ℕ). getD (set none u 1) i 0) z ∙ getD-set-same none u 1 0 inside) ∙ member-singleton q 0)
-          go (no n) = rw (ne-eqb w u n) (ap (member q) (getD-set-other none u w 1 0 n ∙ zeros (length old) w) ∙ member-empty q)
+          go (no n) = rw (ne-eqb w u n) (ap (member q) (getD-set-other none u w 1 0 n ∙ zeros-at (length old) w) ∙ member-empty q)
 
   module _ (x : ℕ) (l : List ℕ) (up : u < x) (inv : Turned log work u x l) where
     pub pass-more : (n t : ℕ) → Arrived log work l x t → 1024 ≤ length l → Laid log → n ≡ getD log 0 0 → x < n → Turned log work u (x + 1) (set l x t)

@@ -9,12 +9,6 @@ ghost use Rattle.step_table.specs.Table.{tableLength, Laid};
 ghost use Rattle.backward.specs.Backward.{Inside};
 ghost use Rattle.forward.specs.Pass.{gathered, enteredBy, Arrived, ForwardedBy};
 
-fn wide(x: u16) -> usize
-    ensures { λ r. ⌜ r ≡ x ⌝ }
-{
-    x as usize
-}
-
 // The union of the sets of the listed steps.
 fn gather(links: &[u16], states: &[u16]) -> u16
     requires { ⌜ Inside (length (now states)) (now links) ⌝ }
@@ -23,7 +17,7 @@ fn gather(links: &[u16], states: &[u16]) -> u16
     let mut all: u16 = 0;
     let mut i = 0;
     while i < links.len() {
-        let w = wide(links[i]);
+        let w = lists::wide(links[i]);
         all = sets::union(all, states[w]);
         i += 1;
     }
@@ -89,7 +83,7 @@ pub fn forward_pass(log: &[u16], work: &[u16], u: usize, states: &mut [u16])
     ensures { λ _. ⌜ ForwardedBy (now (log .entry)) (now (work .entry)) u (now (states .exit)) ⌝ }
 {
     backward::begin_pass(u, 1, states);
-    let n = wide(log[0]);
+    let n = lists::wide(log[0]);
     let mut x = u + 1;
     while x < n {
         states[x] = set_at(log, work, x, states);

@@ -1,7 +1,7 @@
 -- A text that is accepted left a place of its buffer free: reading it came to the file's end, and it is not cut off. Assumes nothing.
 use Prim.Native.Nat.{ℕ, suc, _≤_, _<_}
 use mathlib.Core.Path.{_≡_, refl, sym, ap, _∙_, subst}
-use mathlib.Core.Bool.{Bool, true, false, _||_}
+use mathlib.Core.Bool.{Bool, true, _||_, or-true}
 use mathlib.Core.List.{List}
 use native.Mathlib.Decide.{decLt}
 use native.Mathlib.Omega.{arith}
@@ -21,10 +21,6 @@ use Rattle.log.specs.Answer.{hostFaults as logFaults, logAnswer}
 use Rattle.log_walk.specs.Filled.{answerOf as answerOfLog}
 use Rattle.judge_files.specs.Files.{PatternRead, LogRead}
 
-or-true : (b : Bool) → (b || true) ≡ true
-or-true true = refl
-or-true false = refl
-
 -- A text that fills its buffer has a bad size.
 filled : (text : List ℕ) (most size : ℕ) → length text ≡ suc most → size ≤ length text → length text ≤ size → badSize most (take size text) ≡ true
 filled text most size e h g =
@@ -40,28 +36,22 @@ log-refused : (t log : List ℕ) (labels : ℕ) → badSize logMost t ≡ true �
 unfolding numbered
 log-refused t log labels e = never-accepted (logFaults labels log) (answerOfLog (logText labels t)) refl (rw e (λ z. absurd (omega arith)))
 
+-- A text that is not of a bad size left a place free.
+free : (text : List ℕ) (most size : ℕ) → length text ≡ suc most → size ≤ length text → (badSize most (take size text) ≡ true → ⊥) → size < length text
+free text most size e h good = go (decLt size (length text))
+  where
+    go : Dec (size < length text) → size < length text
+    go (yes l) = l
+    go (no k) = absurd (good (filled text most size e h (omega arith)))
+
 pub pattern-whole : (text pattern pattern′ : List ℕ) (r : Answer) (d : PatternRead text pattern r pattern′)
     → length text ≡ suc patternMost → r .number ≡ 0 → d .size < length text
-pattern-whole text pattern pattern′ r d e z = go (decLt (d .size) (length text))
-  where
-    t : List ℕ
-    t = take (d .size) text
-
-    go : Dec (d .size < length text) → d .size < length text
-    go (yes h) = h
-    go (no k) =
-        let full = filled text patternMost (d .size) e (d .fits) (omega arith) in
-        absurd (pattern-refused t pattern full (sym (ap (λ (a : Answer). a .number) (d .answered)) ∙ z))
+pattern-whole text pattern pattern′ r d e z =
+    free text patternMost (d .size) e (d .fits)
+    (λ bad. pattern-refused (take (d .size) text) pattern bad (sym (ap (λ (a : Answer). a .number) (d .answered)) ∙ z))
 
 pub log-whole : (text pattern log log′ : List ℕ) (r : Answer) (d : LogRead text pattern log r log′)
     → length text ≡ suc logMost → r .number ≡ 0 → d .size < length text
-log-whole text pattern log log′ r d e z = go (decLt (d .size) (length text))
-  where
-    t : List ℕ
-    t = take (d .size) text
-
-    go : Dec (d .size < length text) → d .size < length text
-    go (yes h) = h
-    go (no k) =
-        let full = filled text logMost (d .size) e (d .fits) (omega arith) in
-        absurd (log-refused t log (getD pattern 0 0) full (sym (ap (λ (a : Answer). a .number) (d .answered)) ∙ z))
+log-whole text pattern log log′ r d e z =
+    free text logMost (d .size) e (d .fits)
+    (λ bad. log-refused (take (d .size) text) log (getD pattern 0 0) bad (sym (ap (λ (a : Answer). a .number) (d .answered)) ∙ z))

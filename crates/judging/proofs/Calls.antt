@@ -2,15 +2,16 @@
 -- Assumes nothing.
 use Prim.Native.Nat.{ℕ, zero, suc, _+_, _-_, _*_, _≤_, _<_}
 use mathlib.Core.Path.{_≡_, refl, sym, ap, ap₂, _∙_, subst}
-use mathlib.Core.Bool.{Bool, true, false, not, cond}
+use mathlib.Core.Bool.{Bool, false, not, cond}
 use mathlib.Core.List.{List, [], _∷_, _++_, append-assoc}
 use mathlib.Core.Logic.{_⊎_, inl, inr}
 use native.Mathlib.Nat.{eq-or-lt-of-le}
 use native.Mathlib.Omega.{arith}
-use borrow.Author.Tests.{ltb-false, lt-ltb, le-ltb}
+use borrow.Author.Tests.{ltb-false, lt-ltb, le-ltb, not-false}
 use lib.Dec.{T, eqb, ltb}
 use lib.ListN.{length, getD, take, drop, replicate, length-append}
 use lib.Seq.{take-append-le, drop-append-le, drop-at, take-at}
+use Rattle.sets.proofs.Truth.{true-yes, yes-true}
 use Rattle.answer.specs.declared.Answer.{Answer}
 use Rattle.answer.specs.Answers.{acceptedWith}
 use Rattle.answer.specs.Faults.{Fault}
@@ -47,8 +48,7 @@ module _ (pattern log result work : List ℕ) where
   no-fault t = accepted-passed faults (wholeUpTo (logIn log) (patternIn pattern) (logIn log .size)) refl t
 
   granted : (b : Bool) → not b ≡ false → T b
-  granted true e = tt
-  granted false e = absurd (subst T e tt)
+  granted b e = true-yes b (not-false b e)
 
   -- The tests that an accepted call passed,
   pub passed-all : T (accepts pattern log result work) → Accepted pattern log result work
@@ -69,8 +69,7 @@ module _ (pattern log result work : List ℕ) where
       }
 
   given : (b : Bool) → T b → not b ≡ false
-  given true t = refl
-  given false t = absurd t
+  given b t = ap not (yes-true b t)
 
   -- and conversely: who passes the tests has no fault.
   pub passed : Accepted pattern log result work → Passed faults

@@ -58,6 +58,12 @@ part-all f n l h = ap (λ (x : List ℕ). table f n ++ x) (drop-of-length-le l h
 
 -- ---- zeros from one place up to another
 
+-- A stretch of zeros has no other number, inside it or past its end.
+pub zeros-at : (n i : ℕ) → _≡_ {A = ℕ} (getD (replicate n 0) i 0) 0
+zeros-at zero i = refl
+zeros-at (suc n) zero = refl
+zeros-at (suc n) (suc i) = zeros-at n i
+
 -- Zeros from a up to i, in a list.
 pub zeroed : ℕ → ℕ → List ℕ → List ℕ
 zeroed a i l = take a l ++ (replicate (i - a) 0 ++ drop i l)

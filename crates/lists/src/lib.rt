@@ -1,8 +1,15 @@
-// Buffers of numbers, written in stretches.
+// Buffers of numbers: an element as an index, and stretches written.
 ghost use mathlib.Core.Path.{_≡_};
 ghost use mathlib.Core.List.{_++_};
 ghost use Prim.Native.Nat.{_-_, _≤_};
 ghost use lib.ListN.{length, take, drop, replicate};
+
+// A number of a buffer as an index.
+pub fn wide(x: u16) -> usize
+    ensures { λ r. ⌜ r ≡ x ⌝ }
+{
+    x as usize
+}
 
 // Zeros from one place up to another, and the rest as it was.
 pub fn clear(buffer: &mut [u16], from: usize, to: usize)

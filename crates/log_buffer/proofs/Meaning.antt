@@ -3,18 +3,19 @@
 use Prim.Native.Nat.{ℕ, zero, suc, _+_, _-_, _≤_, _<_}
 use mathlib.Core.Path.{_≡_, refl, sym, ap, _∙_, subst}
 use mathlib.Core.Logic.{inl, inr}
-use mathlib.Core.Bool.{Bool, true, false}
 use mathlib.Core.List.{List, [], _∷_}
 use native.Mathlib.Omega.{arith}
-use borrow.Author.Tests.{lt-ltb, le-ltb, ltb-true, ltb-false}
-use lib.Dec.{T, ltb}
+use borrow.Author.Tests.{lt-ltb, le-ltb}
+use lib.Dec.{T}
 use lib.ListN.{length, getD, take, drop, length-drop}
 use lib.Seq.{length-take-le, getD-take, getD-drop}
-use Rattle.sets.specs.Sets.{_∈_, members, membersFrom}
+use Rattle.sets.proofs.Agree.{members-empty}
+use Rattle.lists.specs.Places.{at}
+use Rattle.sets.specs.Sets.{_∈_, members}
 use Rattle.sets.proofs.Laws.{below-within, members-out}
 use Rattle.necklace.specs.Dag.{WellFormed}
 use Rattle.log_line.specs.Limits.{mostLabels, labelsAt, linkAt}
-use Rattle.log_buffer.specs.Meaning.{at, stepsIn, linksInto, logOf}
+use Rattle.log_buffer.specs.Meaning.{stepsIn, linksInto, logOf}
 use Rattle.log_buffer.specs.Valid.{isLog}
 use Rattle.log_buffer.proofs.Sound.{Sound, sound-iff, begin, width, begin-next, begin-inside}
 
@@ -43,18 +44,10 @@ module _ (b : List ℕ) (v : ℕ) where
 
   -- what has a member stands inside
   some-label : (a : ℕ) → a ∈ logOf b .labels v → v < stepsIn b
-  some-label a m = go (ltb v (stepsIn b)) refl
-    where
-      go : (t : Bool) → ltb v (stepsIn b) ≡ t → v < stepsIn b
-      go true e = ltb-true v (stepsIn b) e
-      go false e = absurd (subst (λ (ls : List ℕ). a ∈ ls) (labels-past (ltb-false v (stepsIn b) e)) m)
+  some-label a m = let n : stepsIn b ≤ v → ⊥ = λ h. subst (λ (ls : List ℕ). a ∈ ls) (labels-past h) m in omega arith
 
   some-pred : (u : ℕ) → u ∈ logOf b .preds v → v < stepsIn b
-  some-pred u m = go (ltb v (stepsIn b)) refl
-    where
-      go : (t : Bool) → ltb v (stepsIn b) ≡ t → v < stepsIn b
-      go true e = ltb-true v (stepsIn b) e
-      go false e = absurd (subst (λ (ls : List ℕ). u ∈ ls) (preds-past (ltb-false v (stepsIn b) e)) m)
+  some-pred u m = let n : stepsIn b ≤ v → ⊥ = λ h. subst (λ (ls : List ℕ). u ∈ ls) (preds-past h) m in omega arith
 
 -- ---- members of a list, by their places
 
@@ -108,14 +101,10 @@ module _ {count : ℕ} {b : List ℕ} (s : Sound count b) (v : ℕ) (inside : v 
 
 -- ---- well formed
 
-no-members-of-none : members mostLabels 0 ≡ []
-unfolding membersFrom
-no-members-of-none = refl
-
 pub sound-well-formed : (count : ℕ) (b : List ℕ) → Sound count b → WellFormed count (logOf b)
 sound-well-formed count b s = record {
   started = rw (size-is b) (s .started);
-  start-bare = labels-are b 0 (s .started) ∙ ap (members mostLabels) (s .bare) ∙ no-members-of-none;
+  start-bare = labels-are b 0 (s .started) ∙ ap (members mostLabels) (s .bare) ∙ members-empty mostLabels;
   start-first =
       let e : width b 0 ≡ 0 = let u = s .unlinked in omega arith in
       preds-are b 0 (s .started) ∙ ap (λ (n : ℕ). take n (drop (linkAt (begin b 0)) b)) e;
@@ -134,7 +123,7 @@ sound-well-formed count b s = record {
 
     known : (v a : ℕ) → v < stepsIn b → a ∈ logOf b .labels v → a < count
     known zero a h m =
-        let n = labels-are b 0 h ∙ ap (members mostLabels) (s .bare) ∙ no-members-of-none in
+        let n = labels-are b 0 h ∙ ap (members mostLabels) (s .bare) ∙ members-empty mostLabels in
         absurd (subst (λ (ls : List ℕ). a ∈ ls) n m)
     known (suc v) a h m =
         let t = members-out mostLabels (at b (labelsAt (suc v))) a (subst (λ (ls : List ℕ). a ∈ ls) (labels-are b (suc v) h) m) .1 in

@@ -9,11 +9,12 @@ use native.Mathlib.Omega.{arith}
 use borrow.Author.Tests.{ltb-true, ltb-false, eqb-true, eqb-false}
 use lib.Dec.{T, ltb, leb, eqb, ltb→lt, lt→ltb, leb→le, le→leb, eqb→eq, eqb-refl}
 use lib.ListN.{length}
+use Rattle.lists.specs.Places.{at}
 use Rattle.sets.specs.Sets.{allBelow, within}
 use Rattle.sets.proofs.Truth.{and-i, and-l, and-r, or-cases, true-yes}
 use Rattle.sets.proofs.Below.{allBelow-iff}
 use Rattle.log_line.specs.Limits.{mostBoard, mostSteps, mostLinks, mostPreds, labelsAt, boardAt, beginAt, linkAt, bufferLength}
-use Rattle.log_buffer.specs.Meaning.{at, stepsIn}
+use Rattle.log_buffer.specs.Meaning.{stepsIn}
 use Rattle.log_buffer.specs.Valid.{valuesOk, beginOk, linkOk, linksOk, restOk, graphOk, isLog}
 use Rattle.log_buffer.proofs.TestLaws.{links, rises}
 

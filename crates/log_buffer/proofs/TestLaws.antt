@@ -2,18 +2,19 @@
 -- Assumes nothing.
 use Prim.Native.Nat.{ℕ, zero, suc, _+_, _-_, _^_, _≤_, _<_}
 use mathlib.Core.Path.{_≡_, refl, sym, ap, _∙_}
-use mathlib.Core.Bool.{Bool, true, false, not, cond, _&&_}
+use mathlib.Core.Bool.{Bool, true, false, not, cond, _&&_, and-true, and-false}
 use mathlib.Core.List.{List}
 use native.Mathlib.Omega.{arith}
 use borrow.Author.Tests.{lt-ltb, le-ltb, le-leb, lt-leb, eq-eqb, ne-eqb, leb-false, not-true, not-false}
 use lib.Dec.{T, ltb, leb, eqb, ltb→lt, lt→ltb, leb→le, eqb→eq}
 use lib.Pow.{pow-lt}
 use lib.ListN.{length}
+use Rattle.lists.specs.Places.{at}
 use Rattle.sets.specs.Sets.{allBelow, within}
 use Rattle.sets.proofs.Truth.{and-l, or-l, true-yes, yes-true}
 use Rattle.sets.proofs.Below.{allBelow-iff, allBelow-none, allBelow-on, allBelow-stop, allBelow-end}
 use Rattle.log_line.specs.Limits.{mostBoard, mostSteps, mostLinks, mostPreds, labelsAt, boardAt, beginAt, linkAt, bufferLength}
-use Rattle.log_buffer.specs.Meaning.{at, stepsIn}
+use Rattle.log_buffer.specs.Meaning.{stepsIn}
 use Rattle.log_buffer.specs.Valid.{valuesOk, beginOk, linkOk, linksOk, restOk, graphOk, isLog}
 
 -- ---- labels
@@ -22,14 +23,6 @@ pub within-wide : (n s : ℕ) → s < 2 ^ 16 → 16 < n → true ≡ within n s
 within-wide n s h l = let p : 2 ^ 16 < 2 ^ n = pow-lt l in sym (lt-ltb s (2 ^ n) (omega arith))
 
 -- ---- the values of a step
-
-and-false : (t : Bool) → false ≡ (t && false)
-and-false true = refl
-and-false false = refl
-
-and-true : (t : Bool) → t ≡ (t && true)
-and-true true = refl
-and-true false = refl
 
 module _ (count : ℕ) (b : List ℕ) (v n : ℕ) (known : n ≡ stepsIn b) where
   pub values-past-set : n ≤ v → (at b (labelsAt v) ≡ 0 → ⊥) → false ≡ valuesOk count b v
@@ -41,13 +34,13 @@ module _ (count : ℕ) (b : List ℕ) (v n : ℕ) (known : n ≡ stepsIn b) wher
   pub values-board : v < n → mostBoard < at b (boardAt v) → false ≡ valuesOk count b v
   values-board h k =
       simp (lt-ltb v (stepsIn b) (omega arith), lt-leb (at b (boardAt v)) mostBoard k)
-      (and-false (cond (eqb v 0) (eqb (at b (labelsAt v)) 0) (within count (at b (labelsAt v)))))
+      (sym (and-false (cond (eqb v 0) (eqb (at b (labelsAt v)) 0) (within count (at b (labelsAt v))))))
 
   pub values-first : v < n → at b (boardAt v) ≤ mostBoard → v ≡ 0 → eqb (at b (labelsAt v)) 0 ≡ valuesOk count b v
-  values-first h k z = simp (lt-ltb v (stepsIn b) (omega arith), le-leb (at b (boardAt v)) mostBoard k, eq-eqb v 0 z) (and-true _)
+  values-first h k z = simp (lt-ltb v (stepsIn b) (omega arith), le-leb (at b (boardAt v)) mostBoard k, eq-eqb v 0 z) (sym (and-true _))
 
   pub values-on : v < n → at b (boardAt v) ≤ mostBoard → (v ≡ 0 → ⊥) → (r : Bool) → r ≡ within count (at b (labelsAt v)) → r ≡ valuesOk count b v
-  values-on h k z r e = simp (lt-ltb v (stepsIn b) (omega arith), le-leb (at b (boardAt v)) mostBoard k, ne-eqb v 0 z) (e ∙ and-true _)
+  values-on h k z r e = simp (lt-ltb v (stepsIn b) (omega arith), le-leb (at b (boardAt v)) mostBoard k, ne-eqb v 0 z) (e ∙ sym (and-true _))
 
 pub ruleset values-kit = (within-wide, values-past-set, values-past, values-board, values-first, values-on)
 

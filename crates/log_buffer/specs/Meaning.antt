@@ -3,13 +3,11 @@ use Prim.Native.Nat.{ℕ, _+_, _-_}
 use mathlib.Core.Bool.{cond}
 use mathlib.Core.List.{List, []}
 use lib.Dec.{ltb}
-use lib.ListN.{getD, take, drop}
+use lib.ListN.{take, drop}
+use Rattle.lists.specs.Places.{at}
 use Rattle.sets.specs.Sets.{members}
 use Rattle.necklace.specs.Dag.{Dag}
 use Rattle.log_line.specs.Limits.{mostLabels, labelsAt, beginAt, linkAt}
-
-abbrev pub at : List ℕ → ℕ → ℕ
-at b i = getD b i 0
 
 abbrev pub stepsIn : List ℕ → ℕ
 stepsIn b = at b 0

@@ -4,9 +4,10 @@ use mathlib.Core.Bool.{Bool, not, cond, _&&_, _||_}
 use mathlib.Core.List.{List}
 use lib.Dec.{eqb, leb, ltb}
 use lib.ListN.{length}
+use Rattle.lists.specs.Places.{at}
 use Rattle.sets.specs.Sets.{allBelow, within}
 use Rattle.log_line.specs.Limits.{mostBoard, mostSteps, mostLinks, mostPreds, labelsAt, boardAt, beginAt, linkAt, bufferLength}
-use Rattle.log_buffer.specs.Meaning.{at, stepsIn}
+use Rattle.log_buffer.specs.Meaning.{stepsIn}
 
 -- The label set and the board of a step; zeros past the last step.
 abbrev pub valuesOk : ℕ → List ℕ → ℕ → Bool

@@ -4,23 +4,18 @@ ghost use mathlib.Core.Path.{_≡_};
 ghost use Prim.Native.Nat.{_<_, _≤_, _+_};
 ghost use mathlib.Core.Bool.{true};
 ghost use lib.ListN.{length};
+ghost use Rattle.lists.specs.Places.{at};
 ghost use Rattle.sets.specs.Sets.{allBelow};
 ghost use Rattle.log_line.specs.Limits.{bufferLength, mostSteps, mostLinks, beginAt};
-ghost use Rattle.log_buffer.specs.Meaning.{at, stepsIn};
+ghost use Rattle.log_buffer.specs.Meaning.{stepsIn};
 ghost use Rattle.log_buffer.specs.Valid.{beginOk, linkOk, linksOk, restOk, graphOk};
-
-fn wide(x: u16) -> usize
-    ensures { λ r. ⌜ r ≡ x ⌝ }
-{
-    x as usize
-}
 
 // The number at a place, as a place or a count.
 pub fn number_at(buffer: &[u16], i: usize) -> usize
     requires { ⌜ i < length (now buffer) ⌝ }
     ensures { λ r. ⌜ r ≡ at (now (buffer .entry)) i ⌝ }
 {
-    wide(buffer[i])
+    lists::wide(buffer[i])
 }
 
 // Where the links of the step after v begin: 1 to 8 places after those of v, and for step 0 at the same; zeros past the last step.

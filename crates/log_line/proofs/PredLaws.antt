@@ -1,7 +1,7 @@
 -- The field `preds`, part by part: all parts numbers, rising, stored.
 -- Assumes nothing.
 use mathlib.Core.Path.{_≡_, refl, sym, ap, _∙_}
-use mathlib.Core.Bool.{Bool, true, false, not, cond, _&&_, _||_}
+use mathlib.Core.Bool.{Bool, true, false, not, cond, _&&_, _||_, and-true, and-false}
 use mathlib.Core.List.{List, [], _∷_, _++_, map, append-nil, append-assoc}
 use Prim.Native.Nat.{ℕ, _+_, _-_, _≤_, _<_}
 use native.Mathlib.Omega.{arith}
@@ -10,6 +10,7 @@ use borrow.Author.Tests.{le-leb, lt-leb, lt-ltb, le-ltb, eq-eqb, ne-eqb, ltb-tru
 use lib.Dec.{leb, ltb, eqb}
 use lib.ListN.{length, take, drop, set, length-map, length-append}
 use lib.Seq.{take-suc-set, length-take-le, set-out}
+use Rattle.numbers.proofs.ListedLaws.{areNumbers-none, areNumbers-first}
 use Rattle.text.specs.Split.{split, firstPart}
 use Rattle.numbers.specs.Numbers.{numberOf, isNumber, valueOf}
 use Rattle.numbers.specs.declared.Number.{Number}
@@ -24,14 +25,6 @@ use Rattle.numbers.proofs.ValueLaws.{not-number, is-number, value-some}
 
 -- ---- every part a number
 
-numbers-nil : areNumbers [] ≡ true
-unfolding areNumbers
-numbers-nil = refl
-
-numbers-cons : (p : List ℕ) (ps : List (List ℕ)) → areNumbers (p ∷ ps) ≡ (isNumber p && areNumbers ps)
-unfolding areNumbers
-numbers-cons p ps = refl
-
 pub numbers-start : (l : List ℕ) → areNumbers (split 44 l) ≡ areNumbers (partsFrom 44 l 0)
 numbers-start l = ap areNumbers (parts-all 44 l)
 
@@ -39,7 +32,7 @@ module _ (l : List ℕ) (at : ℕ) (inv : areNumbers (split 44 l) ≡ areNumbers
   module _ (n : ℕ) (inside : at ≤ length l) (given : n ≡ length (firstPart 44 (take (length l - at) (drop at l))))
       (r : Number) (said : r ≡ numberOf (take (at + n - at) (drop at l))) where
     here : areNumbers (split 44 l) ≡ (isNumber (take (at + n - at) (drop at l)) && areNumbers (partsFrom 44 l (at + n + 1)))
-    here = inv ∙ ap areNumbers (parts-step 44 l at n inside given) ∙ numbers-cons _ _
+    here = inv ∙ ap areNumbers (parts-step 44 l at n inside given) ∙ areNumbers-first _ _
 
     pub numbers-bad : r ≡ Malformed → false ≡ areNumbers (split 44 l)
     numbers-bad p = sym (here ∙ rw (← not-number _ r said p))
@@ -64,21 +57,9 @@ head-below v u (w ∷ us) e = go (ltb u w) refl (risingBelow v (w ∷ us)) refl 
     go true p false q f rest = let z : _≡_ {A = ℕ} 0 1 = cc in absurd (omega arith)
     go false p t q f rest = let z : _≡_ {A = ℕ} 0 1 = cc in absurd (omega arith)
 
-and-true : (t : Bool) → (t && true) ≡ t
-and-true true = refl
-and-true false = refl
-
-and-false : (t : Bool) → (t && false) ≡ false
-and-false true = refl
-and-false false = refl
-
 rising-cons : (v low u : ℕ) (us : List ℕ) → risingFrom v low (u ∷ us) ≡ (leb low u && risingBelow v (u ∷ us))
 unfolding risingFrom risingBelow
-rising-cons v low u [] = go (ltb u v)
-  where
-    go : (t : Bool) → (leb low u && (t && true)) ≡ (leb low u && t)
-    go true = refl
-    go false = refl
+rising-cons v low u [] = ap (λ (t : Bool). leb low u && t) (and-true (ltb u v))
 rising-cons v low u (w ∷ us) = ap (λ (t : Bool). leb low u && t)
     (ap (λ (t : Bool). ltb u v && t) (rising-cons v (u + 1) w us) ∙ go (ltb u w) refl (risingBelow v (w ∷ us)) refl)
   where
@@ -219,7 +200,7 @@ module _ (v : ℕ) (l : List ℕ) (at k low : ℕ) (rising : Bool) (preds : List
 
   module _ (past : length l < at) where
     all-numbers : areNumbers (split 44 l) ≡ true
-    all-numbers = s .numbered ∙ ap areNumbers (parts-none 44 l at past) ∙ numbers-nil
+    all-numbers = s .numbered ∙ ap areNumbers (parts-none 44 l at past) ∙ areNumbers-none
 
     rising-is-so : rising ≡ risingBelow v (map valueOf (split 44 l))
     rising-is-so = sym (s .rises ∙ ap (λ (us : List ℕ). rising && risingFrom v low us) (numbers-none l at past) ∙ ap (λ (t : Bool). rising && t) (rising-nil v low) ∙ and-true rising)

@@ -8,6 +8,7 @@ use native.Mathlib.Omega.{arith}
 use borrow.Author.Tests.{ne-eqb, ltb-false, eqb-false}
 use lib.Dec.{ltb, eqb}
 use lib.ListN.{length, length-append}
+use Rattle.text.proofs.WalkLaws.{walk-nil, walk-cons}
 use Rattle.text.specs.Split.{split}
 use Rattle.text.specs.Lines.{TextLine, linesOf, whole}
 use Rattle.text.specs.Walk.{Judged, refused, passed, Outcome, accepted, faulty, proceed, walk, badSize}
@@ -86,23 +87,14 @@ module _ (count : ℕ) (k t : Known) (n : ℕ) (l : TextLine) (line : n ≡ leng
 
 -- ---- the lines
 
-walk-next : (count : ℕ) (k : Known) (n : ℕ) (l : TextLine) (ls : List TextLine)
-    → walk (judgeLine count) k n (l ∷ ls) ≡ proceed n (judgeLine count k n l) (λ t. walk (judgeLine count) t (n + 1) ls)
-unfolding walk
-walk-next count k n l ls = refl
-
-walk-none : (count : ℕ) (k : Known) (n : ℕ) → walk (judgeLine count) k n [] ≡ accepted k
-unfolding walk
-walk-none count k n = refl
-
 below-fits : (count : ℕ) (ls : List TextLine) (k out : Known) (n : ℕ) → n ≡ length (k .steps) + 2 → StepsFit count (k .steps)
     → walk (judgeLine count) k n ls ≡ accepted out → StepsFit count (out .steps)
 below-fits count [] k out n line f e =
-    let z : accepted k ≡ accepted out = sym (walk-none count k n) ∙ e in
+    let z : accepted k ≡ accepted out = sym (walk-nil (judgeLine count) k n) ∙ e in
     let y : k ≡ out = cc in
     subst (λ (m : Known). StepsFit count (m .steps)) y f
 below-fits count (l ∷ ls) k out n line f e =
-    go (judgeLine count k n l) refl (sym (walk-next count k n l ls) ∙ e) (λ t h g q. below-fits count ls t out (n + 1) h g q)
+    go (judgeLine count k n l) refl (sym (walk-cons (judgeLine count) k n l ls) ∙ e) (λ t h g q. below-fits count ls t out (n + 1) h g q)
   where
     go : (j : Judged Known) → judgeLine count k n l ≡ j → proceed n j (λ t. walk (judgeLine count) t (n + 1) ls) ≡ accepted out
         → ((t : Known) → n + 1 ≡ length (t .steps) + 2 → StepsFit count (t .steps) → walk (judgeLine count) t (n + 1) ls ≡ accepted out → StepsFit count (out .steps))
@@ -125,10 +117,10 @@ header-none count k t l e = go (whole 240 l) (isHeader (split 32 (l .bytes))) e
 all-fit : (count : ℕ) (ls : List TextLine) (k out : Known) → k .steps ≡ [] → walk (judgeLine count) k 1 ls ≡ accepted out
     → StepsFit count (out .steps)
 all-fit count [] k out s e =
-    let z : accepted k ≡ accepted out = sym (walk-none count k 1) ∙ e in
+    let z : accepted k ≡ accepted out = sym (walk-nil (judgeLine count) k 1) ∙ e in
     let y : k ≡ out = cc in
     subst (λ (xs : List Step). StepsFit count xs) (sym s ∙ ap (λ (m : Known). m .steps) y) none
-all-fit count (l ∷ ls) k out s e = go (judgeLine count k 1 l) refl (sym (walk-next count k 1 l ls) ∙ e)
+all-fit count (l ∷ ls) k out s e = go (judgeLine count k 1 l) refl (sym (walk-cons (judgeLine count) k 1 l ls) ∙ e)
   where
     go : (j : Judged Known) → judgeLine count k 1 l ≡ j → proceed 1 j (λ t. walk (judgeLine count) t (1 + 1) ls) ≡ accepted out
         → StepsFit count (out .steps)

@@ -9,6 +9,7 @@ use borrow.Author.Tests.{ltb-true, ltb-false}
 use lib.Dec.{ltb}
 use lib.ListN.{length, getD, take, drop, replicate, length-append, length-map, List·getD-append}
 use lib.Seq.{getD-append-add, ext-getD, take-at, drop-at}
+use Rattle.lists.proofs.Tables.{zeros-at}
 use Rattle.log_line.specs.Limits.{labelsAt, boardAt, beginAt, linkAt}
 use Rattle.log_line.specs.Step.{Step, linkCount}
 use Rattle.log_store.specs.Buffer.{padded, begins, links, bufferOf}
@@ -24,11 +25,6 @@ pub record Holds (b : List ℕ) (xs : List Step) : Type 0 where
   pub board : (v : ℕ) → v < 1024 → getD b (boardAt v) 0 ≡ getD (map (λ (x : Step). x .board) xs) v 0
   pub begin : (v : ℕ) → v < 1025 → getD b (beginAt v) 0 ≡ getD (begins 0 xs) v 0
   pub link : (i : ℕ) → i < 4096 → getD b (linkAt i) 0 ≡ getD (links xs) i 0
-
-zeros-at : (n i : ℕ) → getD (replicate {A = ℕ} n 0) i 0 ≡ 0
-zeros-at zero i = refl
-zeros-at (suc n) zero = refl
-zeros-at (suc n) (suc i) = zeros-at n i
 
 after-zeros : (l : List ℕ) (n i : ℕ) → getD (l ++ replicate n 0) i 0 ≡ getD l i 0
 after-zeros [] n i = zeros-at n i

@@ -2,4 +2,3 @@ pub mod StepLaws
 pub mod StepPlaces
 pub mod LogText
 pub mod LogBuffers
-pub mod OnlyFirst

@@ -2,13 +2,14 @@
 -- Assumes nothing.
 use Prim.Native.Nat.{ℕ, zero, suc, _+_, _^_, _≤_, _<_}
 use mathlib.Core.Path.{_≡_, refl, sym, subst}
-use mathlib.Core.Bool.{Bool, true, false, not, cond, _&&_, _||_}
+use mathlib.Core.Bool.{Bool, true, false, not, cond, _||_}
 use mathlib.Core.List.{List, [], _∷_, _++_}
 use native.Mathlib.Omega.{arith}
 use borrow.Author.Tests.{lt-ltb, le-ltb, ltb-true, ltb-false, eq-eqb, ne-eqb, eqb-true, eqb-false, not-false}
 use lib.Dec.{ltb, eqb}
 use lib.ListN.{length, getD, length-append, List·getD-append}
 use lib.Seq.{getD-append-seam}
+use Rattle.sets.proofs.Truth.{both-true}
 use Rattle.sets.specs.Sets.{within}
 use Rattle.text.specs.Walk.{accepted}
 use Rattle.log_line.specs.Limits.{mostBoard, mostSteps, mostLinks, mostPreds}
@@ -20,16 +21,12 @@ use Rattle.log_store.proofs.AcceptedLaws.{accepted-fit}
 
 -- ---- links
 
-and-both : (a c : Bool) → (a && c) ≡ true → (a ≡ true) × (c ≡ true)
-and-both true c e = (refl, e)
-and-both false c e = let z : _≡_ {A = ℕ} 0 1 = cc in absurd (omega arith)
-
 rising-next : (v : ℕ) (us : List ℕ) → risingBelow v us ≡ true → (k : ℕ) → suc k < length us → getD us k 0 < getD us (suc k) 0
 unfolding risingBelow
 rising-next v [] e k h = absurd (omega arith)
 rising-next v (u ∷ []) e k h = absurd (omega arith)
-rising-next v (u ∷ (w ∷ us)) e zero h = ltb-true u w (and-both (ltb u w) (risingBelow v (w ∷ us)) e .0)
-rising-next v (u ∷ (w ∷ us)) e (suc k) h = rising-next v (w ∷ us) (and-both (ltb u w) (risingBelow v (w ∷ us)) e .1) k (omega arith)
+rising-next v (u ∷ (w ∷ us)) e zero h = ltb-true u w (both-true (ltb u w) (risingBelow v (w ∷ us)) e .0)
+rising-next v (u ∷ (w ∷ us)) e (suc k) h = rising-next v (w ∷ us) (both-true (ltb u w) (risingBelow v (w ∷ us)) e .1) k (omega arith)
 
 rising-below : (v : ℕ) (us : List ℕ) → risingBelow v us ≡ true → (k : ℕ) → k < length us → getD us k 0 < v
 unfolding risingBelow
@@ -37,11 +34,11 @@ rising-below v [] e k h = absurd (omega arith)
 rising-below v (u ∷ []) e zero h = ltb-true u v e
 rising-below v (u ∷ []) e (suc k) h = absurd (omega arith)
 rising-below v (u ∷ (w ∷ us)) e zero h =
-    let p = and-both (ltb u w) (risingBelow v (w ∷ us)) e in
+    let p = both-true (ltb u w) (risingBelow v (w ∷ us)) e in
     let l = ltb-true u w (p .0) in
     let r = rising-below v (w ∷ us) (p .1) 0 (omega arith) in
     omega arith
-rising-below v (u ∷ (w ∷ us)) e (suc k) h = rising-below v (w ∷ us) (and-both (ltb u w) (risingBelow v (w ∷ us)) e .1) k (omega arith)
+rising-below v (u ∷ (w ∷ us)) e (suc k) h = rising-below v (w ∷ us) (both-true (ltb u w) (risingBelow v (w ∷ us)) e .1) k (omega arith)
 
 rising-in : (v : ℕ) (us : List ℕ) → ((k : ℕ) → k < length us → getD us k 0 < v) → ((k : ℕ) → suc k < length us → getD us k 0 < getD us (suc k) 0)
     → risingBelow v us ≡ true

@@ -10,6 +10,7 @@ use borrow.Author.Tests.{ltb-true, ltb-false}
 use lib.Dec.{ltb}
 use lib.ListN.{length, getD, take, drop, length-append, length-map, List·getD-append, List·getD-eq-default, List·getD-map}
 use lib.Seq.{take-length, take-append-le, take-all, getD-append-seam, getD-append-add, getD-take, getD-drop, take-add, drop-drop, ext-getD, length-take-le}
+use Rattle.lists.specs.Places.{at}
 use Rattle.sets.specs.Sets.{members}
 use Rattle.log_line.specs.Limits.{mostLabels, mostSteps, mostLinks, labelsAt, boardAt, beginAt, linkAt, bufferLength}
 use Rattle.log_line.specs.Step.{Step, linkCount}
@@ -18,7 +19,7 @@ use Rattle.log_store.specs.Accepted.{StepsFit, none, more}
 use Rattle.log_store.proofs.AcceptedLaws.{few-steps, few-links}
 use Rattle.log_store.proofs.BufferLaws.{count-end, count-more, links-end, links-more, length-begins, length-links}
 use Rattle.log_store.proofs.BufferFacts.{Holds, buffer-holds, holds-buffer, begins-at}
-use Rattle.log_buffer.specs.Meaning.{at, stepsIn, linksInto, logOf}
+use Rattle.log_buffer.specs.Meaning.{stepsIn, linksInto, logOf}
 use Rattle.log_texts.specs.Spelled.{stepIn, stepsUpTo, stepsOf}
 use Rattle.log_buffer.proofs.Sound.{Sound, begin, width, begin-next, begin-inside}
 use Rattle.log_buffer.proofs.Meaning.{labels-are, preds-are, preds-length, pred-at}

@@ -1,13 +1,14 @@
 -- A text that gives a log buffer: the header in the order vertex, board, labels, preds, then a line for each step.
 use Prim.Native.Nat.{ℕ, zero, suc}
 use mathlib.Core.List.{List, [], _∷_, _++_}
+use Rattle.lists.specs.Places.{at}
 use Rattle.text.specs.Split.{lineFrom}
 use Rattle.numbers.specs.Numbers.{spell}
 use Rattle.numbers.specs.Listed.{listWord}
 use Rattle.log_line.specs.Limits.{labelsAt, boardAt}
 use Rattle.log_line.specs.Header.{vertexName, boardName, labelsName, predsName}
 use Rattle.log_line.specs.Step.{Step}
-use Rattle.log_buffer.specs.Meaning.{at, stepsIn, linksInto}
+use Rattle.log_buffer.specs.Meaning.{stepsIn, linksInto}
 
 abbrev pub stepIn : List ℕ → ℕ → Step
 stepIn b v = record { board = at b (boardAt v); labels = at b (labelsAt v); preds = linksInto b v }

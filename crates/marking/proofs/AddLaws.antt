@@ -1,7 +1,7 @@
 -- A bead added to the sets of vertices, vertex by vertex.
 use Prim.Native.Nat.{ℕ, _+_, _-_, _≤_, _<_}
 use mathlib.Core.Path.{_≡_, refl, sym, ap, _∙_}
-use mathlib.Core.Bool.{Bool, true, false, cond, _&&_, _||_}
+use mathlib.Core.Bool.{Bool, true, false, cond, _&&_, _||_, and-true, and-false, or-false}
 use mathlib.Core.List.{List}
 use native.Mathlib.Decide.{ℕ-discrete, decLt}
 use native.Mathlib.Omega.{arith}
@@ -9,6 +9,7 @@ use borrow.Author.Tests.{lt-ltb, le-ltb, ne-eqb}
 use lib.Dec.{ltb, eqb}
 use lib.ListN.{length, getD, set}
 use lib.Seq.{getD-set-same, getD-set-other}
+use Rattle.sets.proofs.Truth.{or-none}
 use Rattle.sets.specs.Sets.{member, singleton, union}
 use Rattle.sets.proofs.Laws.{member-union, member-singleton, union-below}
 use Rattle.passes.specs.Passes.{BeadIn}
@@ -45,10 +46,7 @@ later x i n = go (decLt x i)
         rest n k = omega arith
 
 or-nothing : (a b c : Bool) → (a || (b && (c && false))) ≡ a
-or-nothing true b c = refl
-or-nothing false true true = refl
-or-nothing false true false = refl
-or-nothing false false c = refl
+or-nothing a b c = ap (λ (t : Bool). a || (b && t)) (and-false c) ∙ or-none a b
 
 -- tests that agree where they count
 pub added-ext : (f g : ℕ → Bool) (k u m : ℕ) (old new : List ℕ) → ((v : ℕ) → u < v → v < m → f v ≡ g v) → Added f k u m old new → Added g k u m old new
@@ -63,17 +61,7 @@ added-ext f g k u m old new h a = record { few = a .few; sets = λ j v l. a .set
 pub added-none : (f : ℕ → Bool) (k u m : ℕ) (old : List ℕ) → ((v : ℕ) → u < v → v < m → f v ≡ false) → Added f k u m old old
 added-none f k u m old h =
     added-ext (λ v. false) f k u m old old (λ v l r. sym (h v l r))
-    (record { few = λ g. g; sets = λ j v l. sym (ap (λ (b : Bool). member j (getD old v 0) || (eqb j k && b)) (last (ltb u v) (ltb v m)) ∙ nothing (member j (getD old v 0)) (eqb j k)) })
-  where
-    last : (a b : Bool) → (a && (b && false)) ≡ false
-    last true true = refl
-    last true false = refl
-    last false b = refl
-
-    nothing : (a b : Bool) → (a || (b && false)) ≡ a
-    nothing true b = refl
-    nothing false true = refl
-    nothing false false = refl
+    (record { few = λ g. g; sets = λ j v l. sym (ap (λ (b : Bool). member j (getD old v 0) || (eqb j k && (ltb u v && b))) (and-false (ltb v m)) ∙ or-nothing (member j (getD old v 0)) (eqb j k) (ltb u v)) })
 
 pub added-first : (f : ℕ → Bool) (k u : ℕ) (old : List ℕ) → Added f k u (u + 1) old old
 added-first f k u old = added-none f k u (u + 1) old (λ v l r. absurd (omega arith))
@@ -107,13 +95,8 @@ module _ (pattern states : List ℕ) (k u v : ℕ) (old l : List ℕ) (a : Added
       go : (b : Bool) → f v ≡ b → Added (reachesAt pattern k states) k u (v + 1) old (cond b (set l v (union 16 (getD l v 0) (singleton k))) l)
       go false q = record { few = a .few; sets = λ j w h. one j w h (ℕ-discrete w v) }
         where
-          unset : (c d : Bool) → (c || (d && false)) ≡ c
-          unset true d = refl
-          unset false true = refl
-          unset false false = refl
-
           one : (j w : ℕ) → j < 16 → Dec (w ≡ v) → member j (getD l w 0) ≡ (member j (getD old w 0) || (eqb j k && (ltb u w && (ltb w (v + 1) && f w))))
-          one j w h (yes z) = rw z (before j h ∙ sym (after j ∙ ap (λ (c : Bool). member j (getD old v 0) || (eqb j k && c)) q ∙ unset (member j (getD old v 0)) (eqb j k)))
+          one j w h (yes z) = rw z (before j h ∙ sym (after j ∙ ap (λ (c : Bool). member j (getD old v 0) || (eqb j k && c)) q ∙ or-none (member j (getD old v 0)) (eqb j k)))
           one j w h (no n) = a .sets j w h ∙ same j w n
       go true q = record { few = λ g w. small g w (ℕ-discrete w v); sets = λ j w h. one j w h (ℕ-discrete w v) }
         where
@@ -125,9 +108,7 @@ module _ (pattern states : List ℕ) (k u v : ℕ) (old l : List ℕ) (a : Added
           small g w (no n) = rw (getD-set-other l v w r 0 n) (a .few g w)
 
           set-now : (c d : Bool) → (c || d) ≡ (c || (d && true))
-          set-now true d = refl
-          set-now false true = refl
-          set-now false false = refl
+          set-now c d = ap (λ (t : Bool). c || t) (sym (and-true d))
 
           one : (j w : ℕ) → j < 16 → Dec (w ≡ v) → member j (getD (set l v r) w 0) ≡ (member j (getD old w 0) || (eqb j k && (ltb u w && (ltb w (v + 1) && f w))))
           one j w h (yes z) =
@@ -168,14 +149,6 @@ pub ruleset after-kit = (from-none, from-lacks, from-more, from-all)
 pub added-all : (f : ℕ → Bool) (k u m : ℕ) (old : List ℕ) (r : Bool) → MarkedAfter k u m old r → r ≡ true → Added f k u m old old
 added-all f k u m old r a e = record { few = λ g. g; sets = λ j v l. sym (go j v (ℕ-discrete j k) (decLt u v) (decLt v m)) }
   where
-    or-false : (c : Bool) → (c || false) ≡ c
-    or-false true = refl
-    or-false false = refl
-
-    and-false : (c : Bool) → (c && false) ≡ false
-    and-false true = refl
-    and-false false = refl
-
     go : (j v : ℕ) → Dec (j ≡ k) → Dec (u < v) → Dec (v < m) → (member j (getD old v 0) || (eqb j k && (ltb u v && (ltb v m && f v)))) ≡ member j (getD old v 0)
     go j v (yes z) (yes h) (yes l) = rw (z, a .marked e v h l)
     go j v (yes z) (yes h) (no l) =

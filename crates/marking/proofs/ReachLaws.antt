@@ -6,16 +6,17 @@ use mathlib.Core.List.{List}
 use borrow.Author.Tests.{lt-ltb, eq-eqb, ne-eqb}
 use lib.Dec.{eqb}
 use lib.ListN.{getD}
+use Rattle.sets.proofs.Agree.{someBelow-ext}
+use Rattle.lists.specs.Places.{at}
 use Rattle.sets.specs.Sets.{member, complement, overlaps, someBelow}
 use Rattle.necklace.specs.Dag.{Dag, WellFormed}
 use Rattle.necklace.specs.Automaton.{Automaton, exchange}
 use Rattle.necklace.specs.Necklace.{SOME, ALL}
 use Rattle.necklace.specs.Compute.{some?, all?, satisfiesBy?, satisfies?}
 use Rattle.pattern_line.specs.Limits.{ruleAt, statesAt, acceptingAt}
-use Rattle.pattern_buffer.specs.Meaning.{at, automatonOf, patternOf}
+use Rattle.pattern_buffer.specs.Meaning.{automatonOf, patternOf}
 use Rattle.log_buffer.specs.Meaning.{stepsIn, logOf}
 use Rattle.step_table.specs.Table.{Tabled}
-use Rattle.step_table.proofs.SetLaws.{someBelow-ext}
 use Rattle.step_table.proofs.TableLaws.{next-within}
 use Rattle.forward.specs.Forward.{forward}
 use Rattle.forward.specs.Pass.{ForwardedBy}

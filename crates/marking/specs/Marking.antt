@@ -5,9 +5,9 @@ use mathlib.Core.Bool.{Bool, true, cond, not, _&&_, _||_}
 use mathlib.Core.List.{List}
 use lib.Dec.{eqb, ltb}
 use lib.ListN.{getD, set}
+use Rattle.lists.specs.Places.{at}
 use Rattle.sets.specs.Sets.{member, singleton, union, complement, overlaps}
 use Rattle.pattern_line.specs.Limits.{ruleAt, statesAt, acceptingAt}
-use Rattle.pattern_buffer.specs.Meaning.{at}
 
 -- An ALL bead reaches the vertex that has this set in a forward pass: the set has an accepting state, and no other of the bead's.
 unfoldable pub reachesAll : List ℕ → ℕ → ℕ → Bool

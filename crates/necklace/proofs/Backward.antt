@@ -29,31 +29,37 @@ abbrev pub Leads : Dag → Automaton → (ℕ → Bool) → ℕ → ℕ → ℕ 
 Leads G A F v w q = (xs : List ℕ) × LeadsBy G A F v w q xs
 
 module _ (G : Dag) (A : Automaton) (F : ℕ → Bool) (v : ℕ) where
+  -- What leads from x leads from a predecessor of x: from the same state where x has no label, else from a state that a label of x moves there.
+  pub leads-bare : (x w q : ℕ) → G .labels x ≡ [] → w ∈ G .preds x → Leads G A F v x q → Leads G A F v w q
+  leads-bare x w q e m k =
+      let l = k .1 in
+      (x ∷ k .0, record { path = edge m (l .path); word = l .word; reading = silent e (l .reading); last = l .last; run = l .run; inside = l .inside })
+
+  pub leads-letter : (x w q r a : ℕ) → a ∈ G .labels x → w ∈ G .preds x → r ∈ A .next q a → Leads G A F v x r → Leads G A F v w q
+  leads-letter x w q r a e m n k =
+      let l = k .1 in (
+        x ∷ k .0,
+        record {
+          path = edge m (l .path);
+          word = a ∷ l .word;
+          reading = letter {x = x} {a = a} e (l .reading);
+          last = l .last;
+          run = move n (l .run);
+          inside = l .inside;
+        },
+      )
+
   -- Soundness: what is in a set leads to v, and a turn of the pass keeps this.
   abbrev Sound : (ℕ → ℕ → Bool) → Type 0
   Sound sets = (w q : ℕ) → T (sets w q) → Leads G A F v w q
 
   enters-sound : (x w q : ℕ) (ls : List ℕ) (S : ℕ → Bool) → G .labels x ≡ ls → w ∈ G .preds x → ((r : ℕ) → T (S r) → Leads G A F v x r)
       → T (enters A ls S q) → Leads G A F v w q
-  enters-sound x w q [] S e m h t =
-      let k = h q t in
-      let l = k .1 in
-      (x ∷ k .0, record { path = edge m (l .path); word = l .word; reading = silent e (l .reading); last = l .last; run = l .run; inside = l .inside })
+  enters-sound x w q [] S e m h t = leads-bare x w q e m (h q t)
   enters-sound x w q (a ∷ ls) S e m h t =
       let r = someOf-out (λ b. someOf S (A .next q b)) (a ∷ ls) t in
       let s = someOf-out S (A .next q (r .0)) (r .2) in
-      let k = h (s .0) (s .2) in
-      let l = k .1 in (
-        x ∷ k .0,
-        record {
-          path = edge m (l .path);
-          word = r .0 ∷ l .word;
-          reading = letter {x = x} {a = r .0} (rw e (r .1)) (l .reading);
-          last = l .last;
-          run = move (s .1) (l .run);
-          inside = l .inside;
-        },
-      )
+      leads-letter x w q (s .0) (r .0) (rw e (r .1)) m (s .1) (h (s .0) (s .2))
 
   addBack-sound : (x : ℕ) (sets : ℕ → ℕ → Bool) → Sound sets → Sound (addBack G A x sets)
   addBack-sound x sets h w q t = go (or-cases (sets w q) (elem w (G .preds x) && enters A (G .labels x) (sets x) q) t)

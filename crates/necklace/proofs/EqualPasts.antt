@@ -6,6 +6,7 @@ use mathlib.Core.Bool.{Bool, true, false}
 use mathlib.Core.List.{List, [], _∷_, _++_}
 use native.Mathlib.Omega.{arith}
 use lib.Dec.{T}
+use Rattle.sets.proofs.Agree.{no-members}
 use Rattle.sets.specs.Sets.{_∈_, setOf}
 use Rattle.sets.proofs.Truth.{and-i, and-l, and-r, same}
 use Rattle.sets.proofs.Laws.{someBelow-out, someBelow-in}
@@ -14,7 +15,6 @@ use Rattle.necklace.specs.Automaton.{Automaton, exchange}
 use Rattle.necklace.specs.Necklace.{Some, Modality, SOME, ALL, Pattern}
 use Rattle.necklace.specs.Past.{Past, Alike}
 use Rattle.necklace.specs.Compute.{some?, all?, satisfiesBy?, satisfies?, holds?, serves?, seek, before, pivots, prefixes, row}
-use Rattle.necklace.proofs.Lists.{no-members}
 use Rattle.necklace.proofs.Paths.{path-route, route-join}
 use Rattle.necklace.proofs.Modalities.{some-agrees, satisfies?-route}
 use Rattle.necklace.proofs.Prefixes.{seek-first}

@@ -1,12 +1,13 @@
 -- Tests over the members of a list: what they say.
-use Prim.Native.Nat.{ℕ}
+use Prim.Native.Nat.{ℕ, _<_}
 use mathlib.Core.Path.{_≡_, refl, ap₂, subst}
 use mathlib.Core.Logic.{_⊎_, inl, inr, _↔_}
-use mathlib.Core.Bool.{Bool, _||_}
+use mathlib.Core.Bool.{Bool, _||_, _&&_}
 use mathlib.Core.List.{List, [], _∷_}
 use lib.Dec.{T, eqb, eqb→eq, eqb-refl}
-use Rattle.sets.specs.Sets.{_∈_}
-use Rattle.sets.proofs.Truth.{or-l, or-r, or-cases}
+use Rattle.sets.proofs.Laws.{someBelow-out, someBelow-in, members-out, members-in}
+use Rattle.sets.specs.Sets.{_∈_, member, someBelow, members}
+use Rattle.sets.proofs.Truth.{or-l, or-r, or-cases, same, and-i, and-l, and-r}
 use Rattle.necklace.specs.Compute.{someOf, elem}
 
 pub someOf-out : (f : ℕ → Bool) (xs : List ℕ) → T (someOf f xs) → (x : ℕ) × (x ∈ xs) × T (f x)
@@ -43,7 +44,23 @@ only r s ls e m = go (rw e at m)
     go : r ∈ (s ∷ []) → r ≡ s
     go (inl p) = p
 
--- a list without members is empty
-pub no-members : (xs : List ℕ) → ((x : ℕ) → x ∈ xs → ⊥) → xs ≡ []
-no-members [] h = refl
-no-members (x ∷ xs) h = absurd (h x (inl refl))
+-- ---- over the members of a set
+
+pub elem-members : (n s r : ℕ) → r < n → elem r (members n s) ≡ member r s
+elem-members n s r h =
+    same (elem r (members n s)) (member r s) (λ t. members-out n s r (elem-out r (members n s) t) .1) (λ t. elem-in r (members n s) (members-in n s r h t))
+
+pub someOf-members : (n s : ℕ) (f : ℕ → Bool) → someOf f (members n s) ≡ someBelow n (λ i. member i s && f i)
+someOf-members n s f = same (someOf f (members n s)) (someBelow n (λ i. member i s && f i)) forth back
+  where
+    forth : T (someOf f (members n s)) → T (someBelow n (λ i. member i s && f i))
+    forth t =
+        let r = someOf-out f (members n s) t in
+        let m = members-out n s (r .0) (r .1) in
+        someBelow-in n (λ i. member i s && f i) (r .0) (m .0) (and-i (member (r .0) s) (f (r .0)) (m .1) (r .2))
+
+    back : T (someBelow n (λ i. member i s && f i)) → T (someOf f (members n s))
+    back t =
+        let r = someBelow-out n (λ i. member i s && f i) t in
+        someOf-in f (members n s) (r .0) (members-in n s (r .0) (r .1) (and-l (member (r .0) s) (f (r .0)) (r .2)))
+        (and-r (member (r .0) s) (f (r .0)) (r .2))

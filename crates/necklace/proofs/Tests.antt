@@ -9,6 +9,7 @@ use native.Mathlib.Decide.{ℕ-discrete}
 use native.Mathlib.Omega.{arith}
 use lib.Dec.{T, eqb, ltb, leb, eqb→eq, eqb-refl, ltb→lt, lt→ltb, leb→le, le→leb}
 use lib.ListN.{length, getD, List·getD-eq-default}
+use Rattle.sets.proofs.Agree.{no-members}
 use Rattle.sets.specs.Sets.{_∈_, allBelow}
 use Rattle.sets.proofs.Truth.{or-l, or-r, or-cases, and-i, and-l, and-r}
 use Rattle.necklace.specs.Dag.{Dag, WellFormed, DagPath, here, edge, Route, entered, Reading, done, silent, letter}
@@ -21,7 +22,7 @@ use Rattle.sets.proofs.Below.{allBelow-iff}
 use Rattle.necklace.specs.Tests.{implies, everyOf, empty, includes, sameMembers?, path?, anyWord, route?, reading?}
 use Rattle.necklace.specs.Tests.{wellFormedAt, wellFormed?, acceptsFrom, accepts?, oneBelow, oneNext?, isAll, differ}
 use Rattle.necklace.specs.Tests.{wellFormedBead, wellFormedPattern?, past?, alikeAt, alike?, onlyAddsAt, onlyAdds?}
-use Rattle.necklace.proofs.Lists.{someOf-out, someOf-in, elem-out, elem-in, elem-agrees, no-members}
+use Rattle.necklace.proofs.Lists.{someOf-out, someOf-in, elem-out, elem-in, elem-agrees}
 use Rattle.necklace.proofs.Paths.{route-lt, some-reading}
 use Rattle.necklace.proofs.Modalities.{some-agrees}
 

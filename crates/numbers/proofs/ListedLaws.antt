@@ -2,7 +2,7 @@
 -- Assumes nothing.
 use Prim.Native.Nat.{ℕ, suc, _+_, _-_, _*_, _^_, _≤_, _<_}
 use mathlib.Core.Path.{_≡_, refl}
-use mathlib.Core.Bool.{true, false}
+use mathlib.Core.Bool.{true, false, _&&_}
 use mathlib.Core.List.{List, [], _∷_, map}
 use native.Mathlib.Nat.{mul-suc}
 use native.Mathlib.Omega.{arith}
@@ -12,9 +12,17 @@ use Rattle.text.specs.Split.{split, joined}
 use Rattle.text.specs.Lines.{printable}
 use Rattle.text.proofs.Spelled.{Lacks, lacks-joined, split-parts, length-joined, printable-listed}
 use Rattle.fields.specs.Fields.{sameBytes}
-use Rattle.numbers.specs.Numbers.{spell}
-use Rattle.numbers.specs.Listed.{isNone, isList, listOf, listWord}
+use Rattle.numbers.specs.Numbers.{spell, isNumber}
+use Rattle.numbers.specs.Listed.{isNone, isList, listOf, listWord, areNumbers}
 use Rattle.numbers.proofs.SpelledNumbers.{length-spell, Under, spells-lack, spells-printable, spells-numbers, spells-values, weight-spells}
+
+pub areNumbers-none : areNumbers [] ≡ true
+unfolding areNumbers
+areNumbers-none = refl
+
+pub areNumbers-first : (p : List ℕ) (ps : List (List ℕ)) → areNumbers (p ∷ ps) ≡ (isNumber p && areNumbers ps)
+unfolding areNumbers
+areNumbers-first p ps = refl
 
 lacks-differs : (b : ℕ) (l : List ℕ) → Lacks b l → sameBytes l (b ∷ []) ≡ false
 unfolding sameBytes

@@ -10,12 +10,13 @@ use native.Mathlib.Omega.{arith}
 use borrow.Author.Tests.{le-leb}
 use lib.Dec.{T}
 use lib.ListN.{length, getD, length-append}
+use Rattle.sets.proofs.Truth.{and-l, and-r}
 use Rattle.text.specs.Lines.{printable}
 use Rattle.text.proofs.Spelled.{Lacks, AllLack, AllPrintable, weight}
 use Rattle.numbers.specs.Numbers.{digit, digits, largest, answer, numberOf, isSome, orZero, isNumber, valueOf, spell}
 use Rattle.numbers.specs.Listed.{areNumbers}
 use Rattle.numbers.specs.declared.Number.the-variants.{Value}
-use Rattle.numbers.proofs.Spelling.{digit-of, both-left, both-right, spell-digit, spell-step, decimal-out, spelling-reads}
+use Rattle.numbers.proofs.Spelling.{digit-of, spell-digit, spell-step, decimal-out, spelling-reads}
 
 -- ---- reading
 
@@ -34,18 +35,18 @@ digits-lack : (c : ℕ) (bs : List ℕ) → c < 48 → T (digits bs) → Lacks c
 unfolding digits
 digits-lack c [] h t = tt
 digits-lack c (b ∷ bs) h t =
-    let r = digit-of b (both-left (digit b) (digits bs) t) in
+    let r = digit-of b (and-l (digit b) (digits bs) t) in
     let l = r .0 in
-    (λ e. absurd (omega arith), digits-lack c bs h (both-right (digit b) (digits bs) t))
+    (λ e. absurd (omega arith), digits-lack c bs h (and-r (digit b) (digits bs) t))
 
 digits-printable : (bs : List ℕ) → T (digits bs) → printable bs ≡ true
 unfolding digits printable
 digits-printable [] t = refl
 digits-printable (b ∷ bs) t =
-    let r = digit-of b (both-left (digit b) (digits bs) t) in
+    let r = digit-of b (and-l (digit b) (digits bs) t) in
     let l = r .0 in
     let h = r .1 in
-    simp (le-leb 32 b (omega arith), le-leb b 126 (omega arith)) (digits-printable bs (both-right (digit b) (digits bs) t))
+    simp (le-leb 32 b (omega arith), le-leb b 126 (omega arith)) (digits-printable bs (and-r (digit b) (digits bs) t))
 
 spell-digits : (n : ℕ) → T (digits (spell n))
 spell-digits n = decimal-out n (spell n) n (spelling-reads n n (omega arith)) .1

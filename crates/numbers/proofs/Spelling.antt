@@ -8,6 +8,7 @@ use Prim.Native.Nat.{ℕ, zero, suc, _+_, _-_, _*_, _/_, _%_, _≤_, _<_}
 use native.Mathlib.Omega.{arith}
 use borrow.Author.Tests.{le-leb, ne-eqb, lt-ltb, le-ltb, ltb-true, ltb-false}
 use lib.Dec.{T, leb, ltb, eqb, leb→le, T-not, eqb-refl}
+use Rattle.sets.proofs.Truth.{and-l, and-r}
 use Rattle.numbers.specs.Numbers.{digit, digits, valueFrom, plain, decimal, spellIn, spell}
 
 -- ---- the spelling's last digit
@@ -53,22 +54,14 @@ digit-of b t = go (leb 48 b) refl t
     go true e u = (leb→le 48 b (subst T (sym e) tt), leb→le b 57 u)
     go false e u = absurd u
 
-pub both-left : (a b : Bool) → T (a && b) → T a
-both-left true b t = tt
-both-left false b t = absurd t
-
-pub both-right : (a b : Bool) → T (a && b) → T b
-both-right true b t = t
-both-right false b t = absurd t
-
 -- Digits after a value that is not 0 stand at the end of the spelling.
 spell-value : (v : ℕ) (bs : List ℕ) → 0 < v → T (digits bs) → spell (valueFrom v bs) ≡ spell v ++ bs
 unfolding valueFrom digits
 spell-value v [] h t = sym (append-nil (spell v))
 spell-value v (b ∷ bs) h t =
-    let d = digit-of b (both-left (digit b) (digits bs) t) in
+    let d = digit-of b (and-l (digit b) (digits bs) t) in
     let e : 48 + (b - 48) ≡ b = omega arith in
-    spell-value (v * 10 + (b - 48)) bs (omega arith) (both-right (digit b) (digits bs) t)
+    spell-value (v * 10 + (b - 48)) bs (omega arith) (and-r (digit b) (digits bs) t)
     ∙ ap (λ (front : List ℕ). front ++ bs) (spell-step v (b - 48) h (omega arith) ∙ ap (λ (x : ℕ). spell v ++ (x ∷ [])) e)
     ∙ append-assoc (spell v) (b ∷ []) bs
 
@@ -76,15 +69,15 @@ spelled : (bs : List ℕ) → T (plain bs) → T (digits bs) → spell (valueFro
 unfolding valueFrom digits
 spelled [] p t = absurd p
 spelled (b ∷ []) p t =
-    let d = digit-of b (both-left (digit b) true t) in
+    let d = digit-of b (and-l (digit b) true t) in
     let e : 48 + (0 * 10 + (b - 48)) ≡ b = omega arith in
     spell-digit (0 * 10 + (b - 48)) (omega arith) ∙ ap (λ (x : ℕ). x ∷ []) e
 spelled (b ∷ (c ∷ bs)) p t =
-    let d = digit-of b (both-left (digit b) (digits (c ∷ bs)) t) in
+    let d = digit-of b (and-l (digit b) (digits (c ∷ bs)) t) in
     let n : (b ≡ 48 → ⊥) = λ e. T-not (eqb b 48) p (subst (λ (x : ℕ). T (eqb x 48)) (sym e) (eqb-refl 48)) in
     let m : 0 < 0 * 10 + (b - 48) = first b (d .0) n in
     let e : 48 + (0 * 10 + (b - 48)) ≡ b = omega arith in
-    spell-value (0 * 10 + (b - 48)) (c ∷ bs) m (both-right (digit b) (digits (c ∷ bs)) t)
+    spell-value (0 * 10 + (b - 48)) (c ∷ bs) m (and-r (digit b) (digits (c ∷ bs)) t)
     ∙ ap (λ (front : List ℕ). front ++ (c ∷ bs)) (spell-digit (0 * 10 + (b - 48)) (omega arith) ∙ ap (λ (x : ℕ). x ∷ []) e)
   where
     first : (b : ℕ) → 48 ≤ b → (b ≡ 48 → ⊥) → 0 < 0 * 10 + (b - 48)

@@ -1,25 +1,25 @@
 -- The flags of a bead: what the loops that make and read them keep, and what they say of the theory.
 use Prim.Native.Nat.{ℕ, zero, suc, _+_, _-_, _≤_, _<_}
 use mathlib.Core.Path.{_≡_, refl, sym, ap, ap₂, _∙_}
-use mathlib.Core.Bool.{Bool, true, false, cond, not, _&&_, _||_}
+use mathlib.Core.Bool.{Bool, true, false, cond, not, _&&_, _||_, and-assoc}
 use mathlib.Core.List.{List, [], _∷_}
 use native.Mathlib.Omega.{arith}
 use borrow.Author.Tests.{lt-ltb, eq-eqb, ne-eqb, ltb-true, ltb-false}
 use lib.Dec.{eqb, ltb}
 use lib.ListN.{length, getD, set}
+use Rattle.lists.specs.Places.{at}
 use Rattle.sets.specs.Sets.{_∈_, member, complement}
 use Rattle.sets.proofs.Truth.{no-false}
 use Rattle.sets.proofs.Laws.{member-complement, setOf-above}
 use Rattle.necklace.specs.Dag.{Dag}
 use Rattle.necklace.specs.Automaton.{Automaton, exchange}
-use Rattle.necklace.specs.Necklace.{Pattern}
 use Rattle.necklace.specs.Compute.{elem, enters, addBack, pass, backward, some?, all?, holds?, serves?}
 use Rattle.necklace.proofs.Backward.{pass-ext, pass-ext-on, backward-pass}
 use Rattle.pattern_line.specs.Limits.{ruleAt, statesAt, acceptingAt}
-use Rattle.pattern_buffer.specs.Meaning.{at, automatonOf, patternOf}
+use Rattle.pattern_buffer.specs.Meaning.{automatonOf, patternOf}
 use Rattle.log_buffer.specs.Meaning.{stepsIn, logOf}
 use Rattle.backward.specs.Backward.{PassedBy}
-use Rattle.passes.specs.Passes.{Marked, Flagged, FlagsBy, prefixAt, Earlier, AtHand, servesSome, servesAll}
+use Rattle.passes.specs.Passes.{Flagged, FlagsBy, prefixAt, AtHand, servesSome, servesAll}
 use Rattle.step_table.proofs.FilledLaws.{filled-none, filled-more, filled-end}
 use Rattle.step_table.proofs.TableLaws.{next-within}
 
@@ -66,12 +66,6 @@ flags-end f n i l h d = record { numbers = filled-end (λ i. cond (f i) 1 0) n i
 pub ruleset kit = (flags-none, flags-more, flags-end)
 
 -- ---- what the flags say
-
--- the marks of more beads tell of fewer
-pub marked-earlier : (G : Dag) (P : Pattern) (k m n : ℕ) (prefixes : List ℕ) → Marked G P m n prefixes → k ≤ m → Earlier G P k n prefixes
-unfolding prefixAt holds?
-marked-earlier G P zero m n prefixes d h = record { holds = λ u l. refl }
-marked-earlier G P (suc k) m n prefixes d h = record { holds = λ u l. d .marks k u (omega arith) l }
 
 -- the pass is by the next states alone
 exchange-enters : (A : Automaton) (ls : List ℕ) (S : ℕ → Bool) (q : ℕ) → enters (exchange A) ls S q ≡ enters A ls S q
@@ -146,11 +140,7 @@ module _ (pattern log work : List ℕ) (j v : ℕ) (prefixes states flags : List
     all-serves rule u h =
         rw (eq-eqb (at pattern (ruleAt j)) 2 rule)
         (ap₂ _&&_ (ap₂ _&&_ (hand .asked .earlier .holds u (let m = high in omega arith)) (some-at u h)) (ap not (other-at u h))
-        ∙ regroup (holds? G (patternOf pattern) j u) (some? G A u v) (not (some? G (exchange A) u v)))
-      where
-        regroup : (a b c : Bool) → ((a && b) && c) ≡ (a && (b && c))
-        regroup true b c = refl
-        regroup false b c = refl
+        ∙ and-assoc (holds? G (patternOf pattern) j u) (some? G A u v) (not (some? G (exchange A) u v)))
 
     pub all-flags : at pattern (ruleAt j) ≡ 2 → FlagsBy (servesAll states others prefixes j) v flags
         → Flagged (logOf log) (patternOf pattern) j v flags

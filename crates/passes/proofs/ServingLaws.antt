@@ -9,8 +9,6 @@ use Rattle.pattern_buffer.specs.Meaning.{automatonOf, patternOf}
 use Rattle.passes.specs.declared.Ready.{Ready}
 use Rattle.step_table.specs.Table.{Tabled}
 use Rattle.passes.specs.Passes.{Flagged, ReadyFor, Served}
-use Rattle.passes.proofs.Facts.{asked}
-use Rattle.passes.proofs.FlagLaws.{marked-earlier}
 
 -- nothing is at hand at first
 pub ready-none : (G : Dag) (P : Pattern) (n v : ℕ) (work flags : List ℕ) → ReadyFor G P n (record { bead = 0; target = v }) work flags
@@ -40,6 +38,3 @@ served-new G pattern n j v work flags t d = record {
 }
 
 pub ruleset kit = (ready-table, served-same, served-new)
-
--- for a caller that has tested both buffers and marked the prefixes
-pub ruleset judge-kit = (asked, marked-earlier, ready-none)

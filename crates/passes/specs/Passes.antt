@@ -1,25 +1,21 @@
 -- What the judge's passes compute, in terms of the theory.
-use Prim.Native.Nat.{ℕ, zero, suc, _+_, _^_, _≤_, _<_}
+use Prim.Native.Nat.{ℕ, zero, suc, _+_, _≤_, _<_}
 use mathlib.Core.Path.{_≡_}
 use mathlib.Core.Bool.{Bool, cond, not, _&&_}
 use mathlib.Core.List.{List}
 use lib.Dec.{eqb}
 use lib.ListN.{length, getD}
+use Rattle.lists.specs.Places.{at}
 use Rattle.sets.specs.Sets.{member}
 use Rattle.necklace.specs.Dag.{Dag}
 use Rattle.necklace.specs.Necklace.{Pattern}
 use Rattle.necklace.specs.Compute.{holds?, serves?, before}
 use Rattle.pattern_line.specs.Limits.{mostBeads, mostStates, statesAt, bufferLength as patternLength}
 use Rattle.log_line.specs.Limits.{mostSteps}
-use Rattle.log_buffer.specs.Meaning.{at, stepsIn, logOf}
+use Rattle.log_buffer.specs.Meaning.{stepsIn, logOf}
 use Rattle.pattern_buffer.specs.Meaning.{automatonOf, patternOf}
 use Rattle.step_table.specs.Table.{tableLength, Tabled, Filled, Laid}
 use Rattle.passes.specs.declared.Ready.{Ready}
-
--- The prefixes of at most k beads are marked in an array of sets, a set a vertex: bit j - 1 for the first j beads.
-pub record Marked (G : Dag) (P : Pattern) (k n : ℕ) (prefixes : List ℕ) : Type 0 where
-  pub marks : (j v : ℕ) → j < k → v < n → member j (getD prefixes v 0) ≡ holds? G P (suc j) v
-  pub no-more : (v : ℕ) → v < n → getD prefixes v 0 < 2 ^ k
 
 -- Which vertices below v serve as the pivot before v for the bead k + 1: 1 where one does, else 0.
 pub record Flagged (G : Dag) (P : Pattern) (k v : ℕ) (flags : List ℕ) : Type 0 where

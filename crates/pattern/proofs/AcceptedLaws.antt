@@ -6,6 +6,7 @@ use mathlib.Core.List.{List, [], _∷_, _++_}
 use Prim.Native.Nat.{ℕ, _+_, _-_, _≤_}
 use native.Mathlib.Omega.{arith}
 use borrow.Author.Tests.{ne-eqb}
+use Rattle.text.proofs.WalkLaws.{walk-nil, walk-cons}
 use Rattle.text.specs.Split.{split}
 use Rattle.text.specs.Lines.{TextLine, linesOf, whole}
 use Rattle.text.specs.Walk.{Judged, refused, passed, accepted, faulty, proceed, walk, badSize, readText}
@@ -14,7 +15,6 @@ use Rattle.pattern_header.specs.Header.{isHeader, labelCount}
 use Rattle.pattern_order.specs.Row.{disordered, misruled}
 use Rattle.pattern_row.specs.Fields.{rowOf, malformed}
 use Rattle.pattern_store.specs.Format.{Known, judgeHeader, judgeRow, judgeLine, patternFormat}
-use Rattle.pattern_late.proofs.LateLaws.{walk-none, walk-one}
 use Rattle.pattern_store.proofs.RowsLaws.{Sound, sound-none}
 use Rattle.pattern_walk.proofs.JudgedLaws.{is-header-few, row-sound}
 
@@ -44,11 +44,11 @@ passed-line k t n l h s e = go (whole mostLine l) (sym (ap (λ (x : Bool). cond 
 
 passed-lines : (ls : List TextLine) (n : ℕ) (k t : Known) → 2 ≤ n → Sound (k .labels) (k .rows) → walk judgeLine k n ls ≡ accepted t → Passed k t
 passed-lines [] n k t h s e =
-    let q : accepted k ≡ accepted t = sym (walk-none judgeLine k n) ∙ e in
+    let q : accepted k ≡ accepted t = sym (walk-nil judgeLine k n) ∙ e in
     let w : k ≡ t = cc in
     rw (← w) (record { labels = refl; sound = s })
 passed-lines (l ∷ ls) n k t h s e =
-    go (judgeLine k n l) refl (λ u p. passed-lines ls (n + 1) u t (omega arith) (p .sound)) (sym (walk-one judgeLine k n l ls) ∙ e)
+    go (judgeLine k n l) refl (λ u p. passed-lines ls (n + 1) u t (omega arith) (p .sound)) (sym (walk-cons judgeLine k n l ls) ∙ e)
   where
     go : (j : Judged Known) → judgeLine k n l ≡ j → ((u : Known) → Passed k u → walk judgeLine u (n + 1) ls ≡ accepted t → Passed u t)
         → proceed n j (λ u. walk judgeLine u (n + 1) ls) ≡ accepted t → Passed k t
@@ -68,10 +68,10 @@ lines-accepted text k e = size (badSize mostText text) e
   where
     first : (ls : List TextLine) → walk judgeLine (record { labels = 0; rows = [] }) 1 ls ≡ accepted k → Accepted k
     first [] q =
-        let w : accepted (record { labels = 0; rows = [] }) ≡ accepted k = sym (walk-none judgeLine (record { labels = 0; rows = [] }) 1) ∙ q in
+        let w : accepted (record { labels = 0; rows = [] }) ≡ accepted k = sym (walk-nil judgeLine (record { labels = 0; rows = [] }) 1) ∙ q in
         let z : record { labels = 0; rows = [] } ≡ k = cc in
         rw (← z) (record { sound = sound-none 0; few = omega arith })
-    first (l ∷ ls) q = line (whole mostLine l) (isHeader (split 32 (l .bytes))) refl (sym (walk-one judgeLine (record { labels = 0; rows = [] }) 1 l ls) ∙ q)
+    first (l ∷ ls) q = line (whole mostLine l) (isHeader (split 32 (l .bytes))) refl (sym (walk-cons judgeLine (record { labels = 0; rows = [] }) 1 l ls) ∙ q)
       where
         line : (t u : Bool) → isHeader (split 32 (l .bytes)) ≡ u
             → proceed 1 (cond t (cond u (passed (record { labels = labelCount (split 32 (l .bytes)); rows = [] })) (refused 12)) (refused 11))

@@ -2,4 +2,3 @@ pub mod Places
 pub mod TestLaws
 pub mod OneNext
 pub mod Meaning
-pub mod Front

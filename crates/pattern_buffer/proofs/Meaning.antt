@@ -8,11 +8,12 @@ use borrow.Author.Tests.{eqb-true, eqb-false}
 use lib.Dec.{T, eqb, eqb→eq}
 use lib.Count.{ones}
 use lib.Pow.{pow-mono}
+use Rattle.lists.specs.Places.{at}
 use Rattle.sets.specs.Sets.{member, members}
 use Rattle.sets.proofs.Laws.{single-count}
 use Rattle.necklace.specs.Necklace.{SOME, ALL, WellFormedPattern}
 use Rattle.pattern_line.specs.Limits.{mostStates, ruleAt, statesAt, acceptingAt, nextAt}
-use Rattle.pattern_buffer.specs.Meaning.{at, labelsIn, beadsIn, modalityOf, automatonOf, patternOf}
+use Rattle.pattern_buffer.specs.Meaning.{labelsIn, beadsIn, modalityOf, automatonOf, patternOf}
 use Rattle.pattern_buffer.specs.Valid.{isPattern}
 use Rattle.pattern_buffer.proofs.Places.{Passes, passes-out, bead-there, next-there}
 use Rattle.pattern_buffer.proofs.OneNext.{AllOne, one-next}

@@ -8,10 +8,11 @@ use native.Mathlib.Omega.{arith}
 use borrow.Author.Tests.{lt-ltb, le-ltb, ltb-true, ltb-false}
 use lib.Dec.{T, eqb, leb, ltb, leb→le, le→leb, ltb→lt, lt→ltb, eqb→eq, eqb-refl, T-not, not-T}
 use lib.ListN.{length}
+use Rattle.lists.specs.Places.{at}
 use Rattle.sets.specs.Sets.{within, single}
 use Rattle.sets.proofs.Truth.{or-l, or-r, or-cases, and-i, and-l, and-r, decide}
 use Rattle.pattern_line.specs.Limits.{mostLabels, mostBeads, mostStates, ruleAt, statesAt, acceptingAt, nextAt, bufferLength}
-use Rattle.pattern_buffer.specs.Meaning.{at, labelsIn, beadsIn}
+use Rattle.pattern_buffer.specs.Meaning.{labelsIn, beadsIn}
 use Rattle.pattern_buffer.specs.Valid.{between, turnOk, beadOk, beadsOk, nextOk, nextsOk, isPattern}
 use Rattle.sets.proofs.Below.{all-out, all-in}
 

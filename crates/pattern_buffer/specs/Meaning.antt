@@ -3,14 +3,11 @@ use Prim.Native.Nat.{ℕ}
 use mathlib.Core.Bool.{cond}
 use mathlib.Core.List.{List}
 use lib.Dec.{eqb}
-use lib.ListN.{getD}
+use Rattle.lists.specs.Places.{at}
 use Rattle.sets.specs.Sets.{member, members}
 use Rattle.necklace.specs.Automaton.{Automaton}
 use Rattle.necklace.specs.Necklace.{Modality, SOME, ALL, Primitive, Pattern}
 use Rattle.pattern_line.specs.Limits.{mostStates, ruleAt, statesAt, acceptingAt, nextAt}
-
-abbrev pub at : List ℕ → ℕ → ℕ
-at b i = getD b i 0
 
 abbrev pub labelsIn : List ℕ → ℕ
 labelsIn b = at b 0

@@ -4,9 +4,10 @@ use mathlib.Core.Bool.{Bool, not, cond, _&&_, _||_}
 use mathlib.Core.List.{List}
 use lib.Dec.{eqb, leb, ltb}
 use lib.ListN.{length}
+use Rattle.lists.specs.Places.{at}
 use Rattle.sets.specs.Sets.{allBelow, within, single}
 use Rattle.pattern_line.specs.Limits.{mostLabels, mostBeads, mostStates, ruleAt, statesAt, acceptingAt, nextAt, bufferLength}
-use Rattle.pattern_buffer.specs.Meaning.{at, labelsIn, beadsIn}
+use Rattle.pattern_buffer.specs.Meaning.{labelsIn, beadsIn}
 
 abbrev pub between : ℕ → ℕ → ℕ → Bool
 between low high n = leb low n && leb n high

@@ -3,8 +3,8 @@ ghost use mathlib.Core.Path.{_≡_};
 ghost use mathlib.Core.Bool.{true};
 ghost use Prim.Native.Nat.{_<_, _≤_};
 ghost use lib.ListN.{length};
+ghost use Rattle.lists.specs.Places.{at};
 ghost use Rattle.pattern_line.specs.Limits.{bufferLength, mostBeads, mostStates, mostLabels, statesAt};
-ghost use Rattle.pattern_buffer.specs.Meaning.{at};
 ghost use Rattle.pattern_buffer.specs.Valid.{beadsOk, nextOk, nextsOk};
 
 // The next set of the state q and the label a of the bead at place j: right if both are there, 0 if not.

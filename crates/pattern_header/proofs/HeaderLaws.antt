@@ -1,11 +1,11 @@
 -- The header, as the code tests it: byte by byte, field by field, and test by test.
 -- Assumes nothing.
 use mathlib.Core.Path.{_≡_, refl, sym, ap, _∙_}
-use mathlib.Core.Bool.{Bool, true, false, not, cond, _&&_, _||_}
+use mathlib.Core.Bool.{Bool, true, false, not, cond, _&&_, and-true, or-false}
 use mathlib.Core.List.{List, [], _∷_}
 use Prim.Native.Nat.{ℕ, _+_, _-_, _≤_, _<_}
 use native.Mathlib.Omega.{arith}
-use borrow.Author.Tests.{le-leb, lt-leb}
+use borrow.Author.Tests.{le-leb, lt-leb, not-true, not-false}
 use lib.Dec.{leb}
 use lib.ListN.{length, getD, take, drop, drop-of-length-le, length-drop}
 use lib.Seq.{drop-cons}
@@ -18,7 +18,7 @@ use Rattle.pattern_header.specs.Header.{columns, sameFields, nameByte, n
 use Rattle.pattern_line.specs.Answers.{refusal}
 use Rattle.pattern_header.specs.Answers.{headerJudged}
 use Rattle.pattern_line.proofs.WordLaws.{absent, selects, ordered, inside}
-use Rattle.pattern_line.proofs.Lists.{denied, undenied, every-more, every-stop, every-end}
+use Rattle.pattern_line.proofs.Lists.{every-more, every-stop, every-end}
 use Rattle.fields.specs.Fields.{sameBytes}
 
 -- ---- a name
@@ -33,11 +33,7 @@ pub byte-between : (b : ℕ) → 48 ≤ b → 57 < b → b < 97 → false ≡ na
 byte-between b h k l = simp (lt-leb 97 b l, le-leb 48 b h, lt-leb b 57 k)
 
 pub byte-letter : (b : ℕ) → 57 < b → 97 ≤ b → leb b 122 ≡ nameByte b
-byte-letter b h k = simp (le-leb 97 b k, le-leb 48 b (omega arith), lt-leb b 57 h) (go (leb b 122))
-  where
-    go : (t : Bool) → t ≡ (t || false)
-    go true = refl
-    go false = refl
+byte-letter b h k = simp (le-leb 97 b k, le-leb 48 b (omega arith), lt-leb b 57 h) (sym (or-false (leb b 122)))
 
 pub ruleset byte-kit = (byte-low, byte-digit, byte-between, byte-letter)
 
@@ -51,10 +47,10 @@ nameBytes-first b bs = refl
 
 module _ (l : List ℕ) (i : ℕ) (inv : nameBytes l ≡ nameBytes (drop i l)) where
   pub bytes-more : i < length l → (t : Bool) → t ≡ nameByte (getD l i 0) → not t ≡ false → nameBytes l ≡ nameBytes (drop (i + 1) l)
-  bytes-more h t g e = every-more 0 nameByte nameBytes nameBytes-none nameBytes-first l i (nameBytes l) inv h (sym g ∙ undenied t e)
+  bytes-more h t g e = every-more 0 nameByte nameBytes nameBytes-none nameBytes-first l i (nameBytes l) inv h (sym g ∙ not-false t e)
 
   pub bytes-stop : i < length l → (t : Bool) → t ≡ nameByte (getD l i 0) → not t ≡ true → false ≡ nameBytes l
-  bytes-stop h t g e = every-stop 0 nameByte nameBytes nameBytes-none nameBytes-first l i (nameBytes l) inv h (sym g ∙ denied t e)
+  bytes-stop h t g e = every-stop 0 nameByte nameBytes nameBytes-none nameBytes-first l i (nameBytes l) inv h (sym g ∙ not-true t e)
 
   pub bytes-end : length l ≤ i → true ≡ nameBytes l
   bytes-end h = every-end 0 nameByte nameBytes nameBytes-none nameBytes-first l i (nameBytes l) inv h
@@ -85,10 +81,6 @@ pub ruleset field-kit = (ordered, inside, name-absent, name-there)
 
 -- ---- the columns
 
-and-true : (t : Bool) → (t && true) ≡ t
-and-true true = refl
-and-true false = refl
-
 columns-by-field : (fs : List (List ℕ))
     → sameFields (take 4 fs) columns
     ≡ (sameBytes (getD fs 0 []) (getD columns 0 []) && (sameBytes (getD fs 1 []) (getD columns 1 [])
@@ -102,19 +94,19 @@ columns-by-field (a ∷ (b ∷ (c ∷ (d ∷ fs)))) = ap (λ (t : Bool). sameByt
 
 module _ (line : List ℕ) (t : Bool) (g : t ≡ sameBytes (fieldAt line 0) (getD columns 0 [])) where
   pub first-differs : not t ≡ true → false ≡ sameFields (take 4 (fieldsOf line)) columns
-  first-differs e = sym (columns-by-field (fieldsOf line) ∙ rw (sym g ∙ denied t e) refl)
+  first-differs e = sym (columns-by-field (fieldsOf line) ∙ rw (sym g ∙ not-true t e) refl)
 
   module _ (e : not t ≡ false) (u : Bool) (h : u ≡ sameBytes (fieldAt line 1) (getD columns 1 [])) where
     pub second-differs : not u ≡ true → false ≡ sameFields (take 4 (fieldsOf line)) columns
-    second-differs f = sym (columns-by-field (fieldsOf line) ∙ rw (sym g ∙ undenied t e, sym h ∙ denied u f) refl)
+    second-differs f = sym (columns-by-field (fieldsOf line) ∙ rw (sym g ∙ not-false t e, sym h ∙ not-true u f) refl)
 
     module _ (f : not u ≡ false) (v : Bool) (k : v ≡ sameBytes (fieldAt line 2) (getD columns 2 [])) where
       pub third-differs : not v ≡ true → false ≡ sameFields (take 4 (fieldsOf line)) columns
-      third-differs m = sym (columns-by-field (fieldsOf line) ∙ rw (sym g ∙ undenied t e, sym h ∙ undenied u f, sym k ∙ denied v m) refl)
+      third-differs m = sym (columns-by-field (fieldsOf line) ∙ rw (sym g ∙ not-false t e, sym h ∙ not-false u f, sym k ∙ not-true v m) refl)
 
       pub fourth-decides : not v ≡ false → (w : Bool) → w ≡ sameBytes (fieldAt line 3) (getD columns 3 [])
           → w ≡ sameFields (take 4 (fieldsOf line)) columns
-      fourth-decides m w n = n ∙ sym (columns-by-field (fieldsOf line) ∙ rw (sym g ∙ undenied t e, sym h ∙ undenied u f, sym k ∙ undenied v m) refl)
+      fourth-decides m w n = n ∙ sym (columns-by-field (fieldsOf line) ∙ rw (sym g ∙ not-false t e, sym h ∙ not-false u f, sym k ∙ not-false v m) refl)
 
 pub ruleset columns-kit = (first-differs, second-differs, third-differs, fourth-decides)
 
@@ -132,10 +124,10 @@ areNames-first p ps = refl
 module _ (line : List ℕ) (n i : ℕ) (count : n ≡ length (fieldsOf line)) (whole : Bool) where
   module _ (inv : whole ≡ areNames (drop i (fieldsOf line))) where
     pub names-more : i < n → (t : Bool) → t ≡ isName (fieldAt line i) → not t ≡ false → whole ≡ areNames (drop (i + 1) (fieldsOf line))
-    names-more h t g e = every-more [] isName areNames areNames-none areNames-first (fieldsOf line) i whole inv (omega arith) (sym g ∙ undenied t e)
+    names-more h t g e = every-more [] isName areNames areNames-none areNames-first (fieldsOf line) i whole inv (omega arith) (sym g ∙ not-false t e)
 
     pub names-stop : i < n → (t : Bool) → t ≡ isName (fieldAt line i) → not t ≡ true → false ≡ whole
-    names-stop h t g e = every-stop [] isName areNames areNames-none areNames-first (fieldsOf line) i whole inv (omega arith) (sym g ∙ denied t e)
+    names-stop h t g e = every-stop [] isName areNames areNames-none areNames-first (fieldsOf line) i whole inv (omega arith) (sym g ∙ not-true t e)
 
     pub names-end : n ≤ i → true ≡ whole
     names-end h = every-end [] isName areNames areNames-none areNames-first (fieldsOf line) i whole inv (omega arith)
@@ -188,7 +180,7 @@ pub ruleset distinct-kit = (distinct-more, distinct-stop, distinct-end)
 module _ (line : List ℕ) (t : Bool) (g : t ≡ sameFields (take 4 (fieldsOf line)) columns) where
   pub header-columns : not t ≡ true → refusal 12 ≡ headerJudged (fieldsOf line)
   unfolding headerJudged
-  header-columns e = sym (rw (sym g ∙ denied t e) refl)
+  header-columns e = sym (rw (sym g ∙ not-true t e) refl)
 
   module _ (e : not t ≡ false) (n : ℕ) (count : n ≡ length (fieldsOf line)) where
     labels : length (drop 4 (fieldsOf line)) ≡ n - 4
@@ -196,13 +188,13 @@ module _ (line : List ℕ) (t : Bool) (g : t ≡ sameFields (take 4 (fieldsOf li
 
     pub header-bare : n < 5 → refusal 12 ≡ headerJudged (fieldsOf line)
     unfolding headerJudged
-    header-bare h = sym (rw (sym g ∙ undenied t e, lt-leb 1 (length (drop 4 (fieldsOf line))) (let l = labels in omega arith)) refl)
+    header-bare h = sym (rw (sym g ∙ not-false t e, lt-leb 1 (length (drop 4 (fieldsOf line))) (let l = labels in omega arith)) refl)
 
     pub header-crowded : 20 < n → refusal 12 ≡ headerJudged (fieldsOf line)
     unfolding headerJudged
     header-crowded h =
         sym (rw (
-          sym g ∙ undenied t e,
+          sym g ∙ not-false t e,
           le-leb 1 (length (drop 4 (fieldsOf line))) (let l = labels in omega arith),
           lt-leb (length (drop 4 (fieldsOf line))) 16 (let l = labels in omega arith),
         ) refl)
@@ -213,19 +205,19 @@ module _ (line : List ℕ) (t : Bool) (g : t ≡ sameFields (take 4 (fieldsOf li
       unfolding headerJudged
       sized =
           rw (
-            sym g ∙ undenied t e,
+            sym g ∙ not-false t e,
             le-leb 1 (length (drop 4 (fieldsOf line))) (let l = labels in omega arith),
             le-leb (length (drop 4 (fieldsOf line))) 16 (let l = labels in omega arith),
           ) refl
 
       pub header-unnamed : not u ≡ true → refusal 12 ≡ headerJudged (fieldsOf line)
-      header-unnamed m = sym (sized ∙ rw (sym k ∙ denied u m) refl)
+      header-unnamed m = sym (sized ∙ rw (sym k ∙ not-true u m) refl)
 
       module _ (m : not u ≡ false) (v : Bool) (d : v ≡ distinct (drop 4 (fieldsOf line))) where
         pub header-repeats : not v ≡ true → refusal 12 ≡ headerJudged (fieldsOf line)
-        header-repeats w = sym (sized ∙ rw (sym k ∙ undenied u m, sym d ∙ denied v w) refl)
+        header-repeats w = sym (sized ∙ rw (sym k ∙ not-false u m, sym d ∙ not-true v w) refl)
 
         pub header-right : not v ≡ false → record { number = 0; values = (n - 4) ∷ [] } ≡ headerJudged (fieldsOf line)
-        header-right w = sym (sized ∙ rw (sym k ∙ undenied u m, sym d ∙ undenied v w) (ap (λ (x : ℕ). record { number = 0; values = (x - 4) ∷ [] }) (sym count)))
+        header-right w = sym (sized ∙ rw (sym k ∙ not-false u m, sym d ∙ not-false v w) (ap (λ (x : ℕ). record { number = 0; values = (x - 4) ∷ [] }) (sym count)))
 
 pub ruleset header-kit = (header-columns, header-bare, header-crowded, header-unnamed, header-repeats, header-right)

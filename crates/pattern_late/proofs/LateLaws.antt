@@ -5,8 +5,9 @@ use mathlib.Core.Bool.{Bool, true, false, not, _&&_}
 use mathlib.Core.List.{List, [], _∷_}
 use Prim.Native.Nat.{ℕ, suc, _+_, _-_, _*_, _/_, _%_, _≤_, _<_}
 use native.Mathlib.Omega.{arith}
-use borrow.Author.Tests.{eq-eqb, ne-eqb, lt-ltb, le-ltb}
+use borrow.Author.Tests.{eq-eqb, ne-eqb, lt-ltb, le-ltb, not-true, not-false}
 use lib.ListN.{length, getD, take, drop}
+use Rattle.text.proofs.WalkLaws.{walk-nil, walk-cons}
 use Rattle.sets.specs.Sets.{within, single, consIf}
 use Rattle.text.specs.Walk.{Judged, refused, passed, Outcome, accepted, faulty, proceed, walk}
 use Rattle.pattern_store.specs.Next.{allWithin, allSingle}
@@ -15,7 +16,7 @@ use Rattle.pattern_late.specs.Late.{Bounded, setsAt, judgeSlot, hasState
 use Rattle.pattern_line.specs.declared.refusals.Refusal.{Refusal}
 use Rattle.pattern_late.specs.declared.SlotAnswer.{SlotAnswer}
 use Rattle.pattern_late.specs.declared.SlotAnswer.the-variants.{Fine, Refused}
-use Rattle.pattern_line.proofs.Lists.{denied, undenied, every-more, every-stop, every-end}
+use Rattle.pattern_line.proofs.Lists.{every-more, every-stop, every-end}
 
 -- ---- every set of a list
 
@@ -38,20 +39,20 @@ single-first s ss = refl
 module _ (l : List ℕ) (i : ℕ) where
   module _ (n : ℕ) (inv : allWithin n l ≡ allWithin n (drop i l)) where
     pub within-more : i < length l → (t : Bool) → t ≡ within n (getD l i 0) → not t ≡ false → allWithin n l ≡ allWithin n (drop (i + 1) l)
-    within-more h t g e = every-more 0 (within n) (allWithin n) (within-none n) (within-first n) l i (allWithin n l) inv h (sym g ∙ undenied t e)
+    within-more h t g e = every-more 0 (within n) (allWithin n) (within-none n) (within-first n) l i (allWithin n l) inv h (sym g ∙ not-false t e)
 
     pub within-stop : i < length l → (t : Bool) → t ≡ within n (getD l i 0) → not t ≡ true → false ≡ allWithin n l
-    within-stop h t g e = every-stop 0 (within n) (allWithin n) (within-none n) (within-first n) l i (allWithin n l) inv h (sym g ∙ denied t e)
+    within-stop h t g e = every-stop 0 (within n) (allWithin n) (within-none n) (within-first n) l i (allWithin n l) inv h (sym g ∙ not-true t e)
 
     pub within-end : length l ≤ i → true ≡ allWithin n l
     within-end h = every-end 0 (within n) (allWithin n) (within-none n) (within-first n) l i (allWithin n l) inv h
 
   module _ (inv : allSingle l ≡ allSingle (drop i l)) where
     pub single-more : i < length l → (t : Bool) → t ≡ single 16 (getD l i 0) → not t ≡ false → allSingle l ≡ allSingle (drop (i + 1) l)
-    single-more h t g e = every-more 0 (single 16) allSingle single-none single-first l i (allSingle l) inv h (sym g ∙ undenied t e)
+    single-more h t g e = every-more 0 (single 16) allSingle single-none single-first l i (allSingle l) inv h (sym g ∙ not-false t e)
 
     pub single-stop : i < length l → (t : Bool) → t ≡ single 16 (getD l i 0) → not t ≡ true → false ≡ allSingle l
-    single-stop h t g e = every-stop 0 (single 16) allSingle single-none single-first l i (allSingle l) inv h (sym g ∙ denied t e)
+    single-stop h t g e = every-stop 0 (single 16) allSingle single-none single-first l i (allSingle l) inv h (sym g ∙ not-true t e)
 
     pub single-end : length l ≤ i → true ≡ allSingle l
     single-end h = every-end 0 (single 16) allSingle single-none single-first l i (allSingle l) inv h
@@ -79,34 +80,25 @@ module _ (b : List ℕ) (f : Bounded b) (i : ℕ) (h : i < 128) where
 
       pub slot-strays : not t ≡ true → refused 15 ≡ judgeSlot b tt 0 i
       unfolding judgeSlot
-      slot-strays e = sym (rw (sym in-states ∙ denied t e) refl)
+      slot-strays e = sym (rw (sym in-states ∙ not-true t e) refl)
 
       module _ (e : not t ≡ false) where
         pub slot-some : (getD b (2 + i / 16) 0 ≡ 2 → ⊥) → passed tt ≡ judgeSlot b tt 0 i
         unfolding judgeSlot
-        slot-some n = sym (rw (sym in-states ∙ undenied t e, ne-eqb (getD b (2 + i / 16) 0) 2 n) refl)
+        slot-some n = sym (rw (sym in-states ∙ not-false t e, ne-eqb (getD b (2 + i / 16) 0) 2 n) refl)
 
         module _ (all : getD b (2 + i / 16) 0 ≡ 2) (u : Bool) (k : u ≡ allSingle (take (26 + 16 * i + w - (26 + 16 * i)) (drop (26 + 16 * i) b))) where
           pub slot-fine : u ≡ true → passed tt ≡ judgeSlot b tt 0 i
           unfolding judgeSlot
-          slot-fine m = sym (rw (sym in-states ∙ undenied t e, eq-eqb (getD b (2 + i / 16) 0) 2 all, sym (k ∙ ap allSingle lent) ∙ m) refl)
+          slot-fine m = sym (rw (sym in-states ∙ not-false t e, eq-eqb (getD b (2 + i / 16) 0) 2 all, sym (k ∙ ap allSingle lent) ∙ m) refl)
 
           pub slot-ambiguous : u ≡ false → refused 16 ≡ judgeSlot b tt 0 i
           unfolding judgeSlot
-          slot-ambiguous m = sym (rw (sym in-states ∙ undenied t e, eq-eqb (getD b (2 + i / 16) 0) 2 all, sym (k ∙ ap allSingle lent) ∙ m) refl)
+          slot-ambiguous m = sym (rw (sym in-states ∙ not-false t e, eq-eqb (getD b (2 + i / 16) 0) 2 all, sym (k ∙ ap allSingle lent) ∙ m) refl)
 
 pub ruleset slot-kit = (states-bound, sets-end, slot-strays, slot-some, slot-fine, slot-ambiguous)
 
 -- ---- the slots
-
-pub walk-none : {S L : Type 0} (judge : S → ℕ → L → Judged S) (s : S) (n : ℕ) → walk judge s n [] ≡ accepted s
-unfolding walk
-walk-none judge s n = refl
-
-pub walk-one : {S L : Type 0} (judge : S → ℕ → L → Judged S) (s : S) (n : ℕ) (l : L) (ls : List L)
-    → walk judge s n (l ∷ ls) ≡ proceed n (judge s n l) (λ t. walk judge t (n + 1) ls)
-unfolding walk
-walk-one judge s n l ls = refl
 
 -- The faults of the slots from i on, where the first of them has this line.
 pub lateFrom : List ℕ → ℕ → ℕ → Outcome (Unit {0})
@@ -119,7 +111,7 @@ late-start b = refl
 module _ (b : List ℕ) (line i : ℕ) (inv : lateFaults b ≡ lateFrom b line i) where
   pub late-end : i ≤ 128 → 128 ≤ i → accepted tt ≡ lateFaults b
   unfolding lateFrom slotsFrom
-  late-end h k = let e : i ≡ 128 = omega arith in sym (inv ∙ rw e (walk-none (judgeSlot b) tt line))
+  late-end h k = let e : i ≡ 128 = omega arith in sym (inv ∙ rw e (walk-nil (judgeSlot b) tt line))
 
   module _ (h : i < 128) (w : ℕ) (count : w ≡ getD b (10 + i / 16) 0) where
     next : slotsFrom b (128 - i) i ≡ consIf (hasState b i) i (slotsFrom b (128 - (i + 1)) (i + 1))
@@ -136,7 +128,7 @@ module _ (b : List ℕ) (line i : ℕ) (inv : lateFaults b ≡ lateFrom b line i
       unfolding lateFrom judgeSlot
       here =
           inv ∙ ap (walk (judgeSlot b) tt line) (next ∙ ap (λ (t : Bool). consIf t i (slotsFrom b (128 - (i + 1)) (i + 1))) (lt-ltb (i % 16) (getD b (10 + i / 16) 0) (omega arith)))
-          ∙ walk-one (judgeSlot b) tt line i (slotsFrom b (128 - (i + 1)) (i + 1))
+          ∙ walk-cons (judgeSlot b) tt line i (slotsFrom b (128 - (i + 1)) (i + 1))
           ∙ ap (λ (j : Judged (Unit {0})). proceed line j (λ t. walk (judgeSlot b) t (line + 1) (slotsFrom b (128 - (i + 1)) (i + 1)))) (sym said)
 
       pub late-fault : (r : Refusal) → a ≡ Refused r → faulty (refusalNumber r) line ≡ lateFaults b

@@ -9,6 +9,7 @@ use borrow.Author.Tests.{eq-eqb, ne-eqb, eqb-true, eqb-false}
 use lib.Dec.{eqb, ltb}
 use lib.ListN.{length, getD, take, drop, length-take, length-drop}
 use lib.Seq.{getD-take, getD-drop, ext-getD}
+use Rattle.text.proofs.WalkLaws.{walk-nil, walk-cons}
 use Rattle.sets.specs.Sets.{consIf}
 use Rattle.text.specs.Walk.{Judged, refused, passed, Outcome, accepted, faulty, proceed, walk}
 use Rattle.pattern_order.specs.Row.{Row}
@@ -16,7 +17,6 @@ use Rattle.pattern_store.specs.Next.{statesOf, allWithin, allSingle}
 use Rattle.pattern_store.specs.Format.{Known, judgeNext}
 use Rattle.pattern_store.specs.Buffer.{ruleOfBead, isAt}
 use Rattle.pattern_late.specs.Late.{Bounded, setsAt, judgeSlot, hasState, slotsFrom, lateFaults}
-use Rattle.pattern_late.proofs.LateLaws.{walk-none, walk-one}
 use Rattle.pattern_store.proofs.RowsLaws.{hasRow, AllOf, all-map, Placed, slotOf, Ascends, Sound}
 use Rattle.pattern_store.proofs.BufferLaws.{Holds}
 
@@ -156,10 +156,10 @@ module _ (k : Known) (b : List ℕ) (h : Holds k b) (few : k .labels ≤ 16) whe
   walks : (rows : List Row) (n : ℕ) → AllOf (Placed (k .labels) (k .rows)) rows
       → walk (judgeNext (k .rows)) k n rows ≡ outcomeAs k (walk (judgeSlot b) tt n (map slotOf rows))
   unfolding AllOf outcomeAs judgedAs
-  walks [] n a = walk-none (judgeNext (k .rows)) k n ∙ sym (ap (outcomeAs k) (walk-none (judgeSlot b) tt n))
+  walks [] n a = walk-nil (judgeNext (k .rows)) k n ∙ sym (ap (outcomeAs k) (walk-nil (judgeSlot b) tt n))
   walks (r ∷ rows) n a =
-      walk-one (judgeNext (k .rows)) k n r rows ∙ ap (λ (j : Judged Known). proceed n j (λ t. walk (judgeNext (k .rows)) t (n + 1) rows)) (judged r (a .0) n)
-      ∙ go (judgeSlot b tt n (slotOf r)) (walks rows (n + 1) (a .1)) ∙ sym (ap (outcomeAs k) (walk-one (judgeSlot b) tt n (slotOf r) (map slotOf rows)))
+      walk-cons (judgeNext (k .rows)) k n r rows ∙ ap (λ (j : Judged Known). proceed n j (λ t. walk (judgeNext (k .rows)) t (n + 1) rows)) (judged r (a .0) n)
+      ∙ go (judgeSlot b tt n (slotOf r)) (walks rows (n + 1) (a .1)) ∙ sym (ap (outcomeAs k) (walk-cons (judgeSlot b) tt n (slotOf r) (map slotOf rows)))
     where
       go : (j : Judged (Unit {0})) → walk (judgeNext (k .rows)) k (n + 1) rows ≡ outcomeAs k (walk (judgeSlot b) tt (n + 1) (map slotOf rows))
           → proceed n (judgedAs k j) (λ t. walk (judgeNext (k .rows)) t (n + 1) rows) ≡ outcomeAs k (proceed n j (λ t. walk (judgeSlot b) t (n + 1) (map slotOf rows)))

@@ -47,12 +47,6 @@ fn all_single(sets: &[u16]) -> bool
     true
 }
 
-fn wide(x: u16) -> usize
-    ensures { λ r. ⌜ r ≡ x ⌝ }
-{
-    x as usize
-}
-
 // 15, then 16, of the next sets of a slot: one for each label.
 fn judge_slot(buffer: &[u16], slot: usize) -> SlotAnswer
     requires { ⌜ Bounded (now buffer) × (slot < 128) ⌝ }
@@ -60,7 +54,7 @@ fn judge_slot(buffer: &[u16], slot: usize) -> SlotAnswer
 {
     let j = slot / 16;
     let from = 26 + 16 * slot;
-    let to = from + wide(buffer[0]);
+    let to = from + lists::wide(buffer[0]);
     let sets = &buffer[from..to];
     if !all_within(sets, buffer[10 + j]) {
         return SlotAnswer::Refused(Refusal::NextState);
@@ -84,7 +78,7 @@ pub fn find_late(buffer: &[u16]) -> LateAnswer
     while i < 128 {
         let slot = i;
         i += 1;
-        if slot % 16 < wide(buffer[10 + slot / 16]) {
+        if slot % 16 < lists::wide(buffer[10 + slot / 16]) {
             match judge_slot(buffer, slot) {
                 SlotAnswer::Refused(f) => {
                     return LateAnswer::Refused(f, line);

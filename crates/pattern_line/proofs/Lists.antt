@@ -1,24 +1,12 @@
 -- Lists as loops go over them: a test of every element.
 -- Assumes nothing.
-use mathlib.Core.Path.{_≡_, refl, sym, ap, _∙_}
-use mathlib.Core.Bool.{Bool, true, false, not, _&&_}
+use mathlib.Core.Path.{_≡_, sym, ap, _∙_}
+use mathlib.Core.Bool.{Bool, true, false, _&&_}
 use mathlib.Core.List.{List, [], _∷_}
 use Prim.Native.Nat.{ℕ, _+_, _≤_, _<_}
 use native.Mathlib.Numerals.{add-one}
 use lib.ListN.{length, getD, drop, drop-of-length-le}
 use lib.Seq.{drop-cons}
-
--- ---- a test that is denied
-
-pub denied : (t : Bool) → not t ≡ true → t ≡ false
-denied true e = sym e
-denied false e = refl
-
-pub undenied : (t : Bool) → not t ≡ false → t ≡ true
-undenied true e = refl
-undenied false e = sym e
-
--- ---- every element passes a test
 
 module _ {X : Type 0} (d : X) (test : X → Bool) (every : List X → Bool) (none : every [] ≡ true)
     (first : (x : X) (xs : List X) → every (x ∷ xs) ≡ (test x && every xs)) (l : List X) (i : ℕ) (whole : Bool) (inv : whole ≡ every (drop i l)) where

@@ -1,14 +1,13 @@
 -- The order of a line after the line before and its rule, as the code tests them.
 -- Assumes nothing.
 use mathlib.Core.Path.{_≡_, refl, sym, _∙_}
-use mathlib.Core.Bool.{Bool, true, false, not, cond, _&&_, _||_}
+use mathlib.Core.Bool.{Bool, true, false, not, cond, _&&_, _||_, or-false}
 use mathlib.Core.List.{List, [], _∷_}
 use Prim.Native.Nat.{_+_, _≤_, _<_}
 use native.Mathlib.Omega.{arith}
-use borrow.Author.Tests.{eq-eqb, ne-eqb, lt-ltb, le-ltb}
+use borrow.Author.Tests.{eq-eqb, ne-eqb, lt-ltb, le-ltb, not-true, not-false}
 use lib.Dec.{eqb}
 use Rattle.pattern_line.specs.Answers.{refusal}
-use Rattle.pattern_line.proofs.Lists.{denied, undenied}
 use Rattle.pattern_order.specs.Row.{Row, followsLast, breaksTurns, misruled}
 use Rattle.pattern_order.specs.Answers.{lineSaid, orderJudged, rowFor, rowsAt}
 use Rattle.pattern_order.specs.declared.LineValues.{LineValues}
@@ -49,10 +48,6 @@ module _ (v : LineValues) (last : Last) where
     pub follows-inside : v .bead ≡ last .bead → eqb (v .state) (last .state + 1) ≡ followsLast (rowsAt last) (rowFor v)
     follows-inside e =
         sym (at-later ∙ rw (eq-eqb (v .bead) (last .bead) e, ne-eqb (v .bead) (last .bead + 1) (λ q. let l = e in omega arith)) (or-false (eqb (v .state) (last .state + 1))))
-      where
-        or-false : (t : Bool) → (t || false) ≡ t
-        or-false true = refl
-        or-false false = refl
 
     module _ (n : v .bead ≡ last .bead → ⊥) where
       pub follows-next : v .bead ≡ last .bead + 1 → eqb (v .state) 0 ≡ followsLast (rowsAt last) (rowFor v)
@@ -78,27 +73,27 @@ pub ruleset turns-kit = (turns-none, turns-inside, turns-next)
 module _ (v : LineValues) (last : Last) (t : Bool) (g : t ≡ followsLast (rowsAt last) (rowFor v)) where
   pub order-broken : not t ≡ true → refusal 13 ≡ orderJudged (rowsAt last) (rowFor v)
   unfolding orderJudged
-  order-broken e = sym (rw (sym g ∙ denied t e) refl)
+  order-broken e = sym (rw (sym g ∙ not-true t e) refl)
 
   module _ (e : not t ≡ false) where
     pub bead-over : 8 < v .bead → refusal 13 ≡ orderJudged (rowsAt last) (rowFor v)
     unfolding orderJudged
-    bead-over h = sym (rw (sym g ∙ undenied t e, lt-ltb 8 (v .bead) h) refl)
+    bead-over h = sym (rw (sym g ∙ not-false t e, lt-ltb 8 (v .bead) h) refl)
 
     module _ (b : v .bead ≤ 8) where
       pub state-over : 16 ≤ v .state → refusal 13 ≡ orderJudged (rowsAt last) (rowFor v)
       unfolding orderJudged
-      state-over h = sym (rw (sym g ∙ undenied t e, le-ltb 8 (v .bead) b, le-ltb (v .state) 16 h) refl)
+      state-over h = sym (rw (sym g ∙ not-false t e, le-ltb 8 (v .bead) b, le-ltb (v .state) 16 h) refl)
 
       module _ (s : v .state < 16) where
         pub final-over : 1 < v .accepting → refusal 13 ≡ orderJudged (rowsAt last) (rowFor v)
         unfolding orderJudged
-        final-over h = sym (rw (sym g ∙ undenied t e, le-ltb 8 (v .bead) b, lt-ltb (v .state) 16 s, lt-ltb 1 (v .accepting) h) refl)
+        final-over h = sym (rw (sym g ∙ not-false t e, le-ltb 8 (v .bead) b, lt-ltb (v .state) 16 s, lt-ltb 1 (v .accepting) h) refl)
 
         module _ (f : v .accepting ≤ 1) where
           ordered : orderJudged (rowsAt last) (rowFor v) ≡ cond (misruled (rowsAt last) (rowFor v)) (refusal 14) (lineSaid (Values v))
           unfolding orderJudged
-          ordered = rw (sym g ∙ undenied t e, le-ltb 8 (v .bead) b, lt-ltb (v .state) 16 s, le-ltb 1 (v .accepting) f) refl
+          ordered = rw (sym g ∙ not-false t e, le-ltb 8 (v .bead) b, lt-ltb (v .state) 16 s, le-ltb 1 (v .accepting) f) refl
 
           pub rule-missing : v .rule ≡ 0 → refusal 14 ≡ orderJudged (rowsAt last) (rowFor v)
           rule-missing z = sym (ordered ∙ rw (eq-eqb (v .rule) 0 z) refl)

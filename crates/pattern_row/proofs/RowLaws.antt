@@ -5,9 +5,10 @@ use mathlib.Core.Bool.{Bool, true, false, not, cond, _&&_}
 use mathlib.Core.List.{List, [], _∷_}
 use Prim.Native.Nat.{ℕ, _+_, _≤_, _<_}
 use native.Mathlib.Omega.{arith}
-use borrow.Author.Tests.{eq-eqb, ne-eqb}
+use borrow.Author.Tests.{eq-eqb, ne-eqb, not-true, not-false}
 use lib.Dec.{eqb}
 use lib.ListN.{length, drop, set}
+use Rattle.numbers.proofs.ListedLaws.{areNumbers-none, areNumbers-first}
 use Rattle.numbers.specs.Numbers.{numberOf, isNumber, valueOf}
 use Rattle.fields.specs.Fields.{sameBytes}
 use Rattle.numbers.proofs.ValueLaws.{not-number, is-number, value-some}
@@ -20,7 +21,7 @@ use Rattle.pattern_order.specs.Answers.{lineSaid, orderJudged, rowFor, rowsAt}
 use Rattle.pattern_row.specs.Answers.{rowJudged, nextSets}
 use Rattle.pattern_order.specs.declared.Last.{Last}
 use Rattle.pattern_order.specs.declared.LineAnswer.{LineAnswer}
-use Rattle.pattern_line.proofs.Lists.{denied, undenied, every-more, every-stop, every-end}
+use Rattle.pattern_line.proofs.Lists.{every-more, every-stop, every-end}
 use Rattle.pattern_order.proofs.OrderLaws.{order-values}
 use Rattle.numbers.specs.Listed.{areNumbers}
 use Rattle.lists.proofs.Tables.{part, part-none, part-more, part-all}
@@ -42,23 +43,15 @@ pub ruleset rule-kit = (rule-some, rule-all, rule-none)
 
 -- ---- numbers
 
-areNumbers-none : areNumbers [] ≡ true
-unfolding areNumbers
-areNumbers-none = refl
-
-areNumbers-first : (p : List ℕ) (ps : List (List ℕ)) → areNumbers (p ∷ ps) ≡ (isNumber p && areNumbers ps)
-unfolding areNumbers
-areNumbers-first p ps = refl
-
 -- n fields, of which those from i on are left
 module _ (line : List ℕ) (n i : ℕ) (count : n ≡ length (fieldsOf line)) (whole : Bool) (inv : whole ≡ areNumbers (drop i (fieldsOf line))) where
   pub numbers-more : i < n → (t : Bool) → t ≡ isNumber (fieldAt line i) → not t ≡ false → whole ≡ areNumbers (drop (i + 1) (fieldsOf line))
   numbers-more h t g e =
-      every-more [] isNumber areNumbers areNumbers-none areNumbers-first (fieldsOf line) i whole inv (omega arith) (sym g ∙ undenied t e)
+      every-more [] isNumber areNumbers areNumbers-none areNumbers-first (fieldsOf line) i whole inv (omega arith) (sym g ∙ not-false t e)
 
   pub numbers-stop : i < n → (t : Bool) → t ≡ isNumber (fieldAt line i) → not t ≡ true → false ≡ whole
   numbers-stop h t g e =
-      every-stop [] isNumber areNumbers areNumbers-none areNumbers-first (fieldsOf line) i whole inv (omega arith) (sym g ∙ denied t e)
+      every-stop [] isNumber areNumbers areNumbers-none areNumbers-first (fieldsOf line) i whole inv (omega arith) (sym g ∙ not-true t e)
 
   pub numbers-end : n ≤ i → true ≡ whole
   numbers-end h = every-end [] isNumber areNumbers areNumbers-none areNumbers-first (fieldsOf line) i whole inv (omega arith)
@@ -97,7 +90,7 @@ module _ (line : List ℕ) (labels : ℕ) (last : Last) (n : ℕ) (count : n ≡
 
     pub set-malformed : not t ≡ true → refusal 11 ≡ rowJudged labels (rowsAt last) (fieldsOf line)
     unfolding rowJudged
-    set-malformed e = sym (rw (counted, sym g ∙ denied t e) (go (isNumber (fieldAt line 0)) (isNumber (fieldAt line 2)) (isNumber (fieldAt line 3))))
+    set-malformed e = sym (rw (counted, sym g ∙ not-true t e) (go (isNumber (fieldAt line 0)) (isNumber (fieldAt line 2)) (isNumber (fieldAt line 3))))
       where
         go : (a b c : Bool) → cond (not (a && (b && (c && false)))) (refusal 11) (orderJudged (rowsAt last) (rowOf (fieldsOf line))) ≡ refusal 11
         go true true true = refl
@@ -139,7 +132,7 @@ module _ (line : List ℕ) (labels : ℕ) (last : Last) (n : ℕ) (count : n ≡
                 sym (is-number (fieldAt line 0) x p bead is-bead),
                 sym (is-number (fieldAt line 2) y q state is-state),
                 sym (is-number (fieldAt line 3) z r accepting is-final),
-                sym g ∙ undenied t e,
+                sym g ∙ not-false t e,
               ) refl)
 
 pub ruleset row-kit = (fields-wrong, set-malformed, bead-malformed, state-malformed, final-malformed, row-right)

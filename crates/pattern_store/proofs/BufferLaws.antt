@@ -1,7 +1,7 @@
 -- The pattern buffer number by number, and what storing a row makes of it.
 -- Assumes nothing.
 use mathlib.Core.Path.{_≡_, refl, sym, ap, ap₂, _∙_}
-use mathlib.Core.Bool.{Bool, true, false, cond, _&&_, _||_}
+use mathlib.Core.Bool.{Bool, true, false, cond, _&&_, _||_, or-false, or-true}
 use mathlib.Core.List.{List, [], _∷_, _++_}
 use Prim.Native.Nat.{ℕ, suc, _+_, _-_, _*_, _/_, _%_, _^_, _≤_, _<_}
 use native.Mathlib.Omega.{arith}
@@ -186,20 +186,12 @@ module _ (rows : List Row) (r : Row) (o : Orderly rows) (a : Added rows r) where
       others q h n true =
           member-union 16 s (singleton (r .state)) q h ∙ ap₂ (λ (x y : Bool). x || y) (member-old q h) (member-singleton q (r .state) ∙ ne-eqb q (r .state) (λ z. n (sym z)))
           ∙ or-false (acceptingOf rows (r .bead) q)
-        where
-          or-false : (x : Bool) → (x || false) ≡ x
-          or-false true = refl
-          or-false false = refl
       others q h n false = member-old q h
 
       itself : (t : Bool) → eqb (r .accepting) 1 ≡ t → r .state < 16 → member (r .state) (cond t (union 16 s (singleton (r .state))) s) ≡ t
       itself true f h =
           member-union 16 s (singleton (r .state)) (r .state) h ∙ ap (λ (x : Bool). member (r .state) s || x) (member-singleton (r .state) (r .state) ∙ eq-eqb (r .state) (r .state) refl)
           ∙ or-true (member (r .state) s)
-        where
-          or-true : (x : Bool) → (x || true) ≡ true
-          or-true true = refl
-          or-true false = refl
       itself false f h = member-old (r .state) h ∙ accepting-absent rows (r .bead) (r .state) (fresh rows r a o)
 
       alike : (q : ℕ) → q < 16 → member q (cond (eqb (r .accepting) 1) (union 16 s (singleton (r .state))) s)

@@ -1,11 +1,11 @@
 -- What rows that come in order satisfy: how a row more changes what they say, and where each stands.
 -- Assumes nothing.
 use mathlib.Core.Path.{_≡_, refl, sym, ap, _∙_}
-use mathlib.Core.Bool.{Bool, true, false, not, cond, _&&_, _||_}
+use mathlib.Core.Bool.{Bool, true, false, not, cond, _&&_, _||_, or-false, or-true, or-assoc}
 use mathlib.Core.List.{List, [], _∷_, _++_}
 use Prim.Native.Nat.{ℕ, _+_, _-_, _*_, _≤_, _<_, max}
 use native.Mathlib.Omega.{arith}
-use borrow.Author.Tests.{eq-eqb, ne-eqb, lt-ltb, le-ltb, eqb-true, eqb-false, ltb-true, ltb-false}
+use borrow.Author.Tests.{eq-eqb, ne-eqb, lt-ltb, le-ltb, eqb-true, eqb-false, ltb-true, ltb-false, not-false}
 use lib.Dec.{eqb, ltb}
 use lib.ListN.{length, getD}
 use Rattle.pattern_order.specs.Row.{Row, followsLast, disordered, breaksTurns, misruled}
@@ -13,7 +13,6 @@ use Rattle.pattern_store.specs.Next.{statesOf}
 use Rattle.pattern_store.specs.Buffer.{beadCount, ruleOfBead, isAt, acceptingOf, nextOf}
 use Rattle.pattern_order.specs.Answers.{rowsAt}
 use Rattle.pattern_order.specs.declared.Last.{Last}
-use Rattle.pattern_line.proofs.Lists.{undenied}
 
 -- ---- one row more
 
@@ -32,19 +31,11 @@ unfolding beadCount
 beads-more [] r = omega arith
 beads-more (p ∷ rows) r = let e = beads-more rows r in omega arith
 
-or-over : (a b c : Bool) → (a || (b || c)) ≡ ((a || b) || c)
-or-over true b c = refl
-or-over false b c = refl
-
-or-false : (a : Bool) → (a || false) ≡ a
-or-false true = refl
-or-false false = refl
-
 pub row-more : (rows : List Row) (r : Row) (b q : ℕ) → hasRow (rows ++ (r ∷ [])) b q ≡ (hasRow rows b q || isAt r b q)
 unfolding hasRow
 row-more [] r b q = or-false (isAt r b q)
 row-more (p ∷ rows) r b q =
-    ap (λ (t : Bool). isAt p b q || t) (row-more rows r b q) ∙ or-over (isAt p b q) (hasRow rows b q) (isAt r b q)
+    ap (λ (t : Bool). isAt p b q || t) (row-more rows r b q) ∙ sym (or-assoc (isAt p b q) (hasRow rows b q) (isAt r b q))
 
 pub next-append : (rows more : List Row) (b q a : ℕ) → nextOf (rows ++ more) b q a ≡ cond (hasRow rows b q) (nextOf rows b q a) (nextOf more b q a)
 unfolding nextOf hasRow
@@ -244,7 +235,7 @@ ruled-of l r h = go (eqb (r .rule) 0) refl h
     unbroken : (l .bead ≡ 0 → ⊥) → r .bead ≡ l .bead → breaksTurns (rowsAt l) r ≡ false → r .rule ≡ l .rule
     unbroken n e k =
         let p : breaksTurns (rowsAt l) r ≡ not (eqb (r .rule) (l .rule)) = rw (ne-eqb (l .bead) 0 n, eq-eqb (r .bead) (l .bead) e) refl in
-        eqb-true (r .rule) (l .rule) (undenied (eqb (r .rule) (l .rule)) (sym p ∙ k))
+        eqb-true (r .rule) (l .rule) (not-false (eqb (r .rule) (l .rule)) (sym p ∙ k))
 
     go : (t : Bool) → eqb (r .rule) 0 ≡ t → (t || breaksTurns (rowsAt l) r) ≡ false → Ruled l r
     go true a e = let y : _≡_ {A = ℕ} 0 1 = cc in absurd (omega arith)
@@ -258,35 +249,25 @@ added rows r o d m =
     i : InOrder rows r
     i = in-order rows r d
 
+    begun : r .bead ≡ lastOf rows .bead + 1 → r .state ≡ 0 → Ruled (lastOf rows) r → Added rows r
+    begun b s u =
+        let c = o .beads in
+        let none : statesOf rows (r .bead) ≡ 0 = o .above (r .bead) (omega arith) in
+        record {
+          bead-low = omega arith;
+          bead-high = i .bead;
+          state-high = i .state;
+          final-high = i .final;
+          state-is = omega arith;
+          bead-top = omega arith;
+          bead-near = omega arith;
+          rule-some = u .rule;
+          rule-same = λ h. absurd (omega arith);
+        }
+
     go : Way (lastOf rows) r → Ruled (lastOf rows) r → Added rows r
-    go (first z b s) u =
-        let c = o .beads in
-        let none : statesOf rows (r .bead) ≡ 0 = o .above (r .bead) (omega arith) in
-        record {
-          bead-low = omega arith;
-          bead-high = i .bead;
-          state-high = i .state;
-          final-high = i .final;
-          state-is = omega arith;
-          bead-top = omega arith;
-          bead-near = omega arith;
-          rule-some = u .rule;
-          rule-same = λ h. absurd (omega arith);
-        }
-    go (next z b s) u =
-        let c = o .beads in
-        let none : statesOf rows (r .bead) ≡ 0 = o .above (r .bead) (omega arith) in
-        record {
-          bead-low = omega arith;
-          bead-high = i .bead;
-          state-high = i .state;
-          final-high = i .final;
-          state-is = omega arith;
-          bead-top = omega arith;
-          bead-near = omega arith;
-          rule-some = u .rule;
-          rule-same = λ h. absurd (omega arith);
-        }
+    go (first z b s) u = begun (omega arith) s u
+    go (next z b s) u = begun b s u
     go (inside z b s) u =
         let c = o .beads in
         let l : 1 ≤ lastOf rows .bead = omega arith in
@@ -442,10 +423,6 @@ at-itself r = rw (eq-eqb (r .bead) (r .bead) refl, eq-eqb (r .state) (r .state) 
 next-alone : (r : Row) (b q a : ℕ) → nextOf (r ∷ []) b q a ≡ cond (isAt r b q) (getD (r .next) a 0) 0
 unfolding nextOf
 next-alone r b q a = refl
-
-or-true : (t : Bool) → (t || true) ≡ true
-or-true true = refl
-or-true false = refl
 
 -- what stood before it still stands there
 placed-more : (c : ℕ) (rows : List Row) (r : Row) → Orderly rows → (p : Row) → Placed c rows p → Placed c (rows ++ (r ∷ [])) p

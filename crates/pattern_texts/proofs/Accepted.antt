@@ -8,9 +8,11 @@ use native.Mathlib.Omega.{arith}
 use borrow.Author.Tests.{ne-eqb, eqb-false, leb-true}
 use lib.Dec.{eqb, leb}
 use lib.ListN.{length, getD, take, drop, length-drop}
+use Rattle.text.proofs.WalkLaws.{accepted-same, walk-nil, walk-step}
+use Rattle.sets.proofs.Truth.{both-true}
 use Rattle.text.specs.Split.{split}
 use Rattle.text.specs.Lines.{TextLine, linesOf, whole}
-use Rattle.text.specs.Walk.{Judged, refused, passed, Outcome, accepted, faulty, proceed, walk, badSize, readText}
+use Rattle.text.specs.Walk.{Judged, refused, passed, Outcome, accepted, faulty, walk, badSize, readText}
 use Rattle.pattern_line.specs.Limits.{mostLine, mostLabels, mostText}
 use Rattle.pattern_header.specs.Header.{columns, sameFields, areNames, distinct, isHeader, labelCount}
 use Rattle.pattern_order.specs.Row.{Row, disordered, misruled}
@@ -18,7 +20,7 @@ use Rattle.pattern_row.specs.Fields.{rowOf, malformed}
 use Rattle.pattern_store.specs.Next.{strays, ambiguous}
 use Rattle.pattern_store.specs.Format.{Known, judgeRow, judgeLine, patternFormat, judgeNext, conclude, patternText}
 use Rattle.pattern_texts.proofs.Ordered.{origin, Ordered, start, more}
-use Rattle.pattern_texts.proofs.RowTests.{and-true, last-positive, row-out, rule-most, labelled-out}
+use Rattle.pattern_texts.proofs.RowTests.{last-positive, row-out, rule-most, labelled-out}
 
 -- ---- judgements that pass, outcomes that are accepted
 
@@ -34,30 +36,8 @@ accept-unless : {S : Type 0} (b : Bool) (x : Outcome S) (n m : ℕ) (t : S) → 
 accept-unless true x n m t e = let z : _≡_ {A = ℕ} 0 1 = cc in absurd (omega arith)
 accept-unless false x n m t e = (refl, e)
 
-pub accepted-same : {S : Type 0} (s t : S) → accepted s ≡ accepted t → s ≡ t
-accepted-same s t e = cc
-
 passed-same : {S : Type 0} (s t : S) → passed s ≡ passed t → s ≡ t
 passed-same s t e = cc
-
-pub walk-nil : {S L : Type 0} (judge : S → ℕ → L → Judged S) (s : S) (n : ℕ) → walk judge s n [] ≡ accepted s
-unfolding walk
-walk-nil judge s n = refl
-
-pub walk-cons : {S L : Type 0} (judge : S → ℕ → L → Judged S) (s : S) (n : ℕ) (l : L) (ls : List L)
-    → walk judge s n (l ∷ ls) ≡ proceed n (judge s n l) (λ t. walk judge t (n + 1) ls)
-unfolding walk
-walk-cons judge s n l ls = refl
-
--- An accepted walk passes its first line, and the rest of it is accepted.
-pub walk-step : {S L : Type 0} (judge : S → ℕ → L → Judged S) (s : S) (n : ℕ) (l : L) (ls : List L) (t : S) → walk judge s n (l ∷ ls) ≡ accepted t
-    → (u : S) × (judge s n l ≡ passed u) × (walk judge u (n + 1) ls ≡ accepted t)
-walk-step judge s n l ls t e = go (judge s n l) refl (sym (walk-cons judge s n l ls) ∙ e)
-  where
-    go : (j : Judged _) → judge s n l ≡ j → proceed n j (λ t. walk judge t (n + 1) ls) ≡ accepted t
-        → (u : _) × (judge s n l ≡ passed u) × (walk judge u (n + 1) ls ≡ accepted t)
-    go (refused k) p q = let z : _≡_ {A = ℕ} 0 1 = cc in absurd (omega arith)
-    go (passed u) p q = (u, p, q)
 
 -- ---- the lines below the header
 
@@ -106,9 +86,9 @@ header-line k l t e =
 
 header-labels : (fs : List (List ℕ)) → isHeader fs ≡ true → (1 ≤ labelCount fs) × (labelCount fs ≤ mostLabels)
 header-labels fs e =
-    let a = and-true (sameFields (take 4 fs) columns) _ e in
-    let b = and-true (leb 1 (length (drop 4 fs))) _ (a .1) in
-    let c = and-true (leb (length (drop 4 fs)) mostLabels) (areNames (drop 4 fs) && distinct (drop 4 fs)) (b .1) in
+    let a = both-true (sameFields (take 4 fs) columns) _ e in
+    let b = both-true (leb 1 (length (drop 4 fs))) _ (a .1) in
+    let c = both-true (leb (length (drop 4 fs)) mostLabels) (areNames (drop 4 fs) && distinct (drop 4 fs)) (b .1) in
     let d = length-drop 4 fs in
     let low = leb-true 1 (length (drop 4 fs)) (b .0) in
     let high = leb-true (length (drop 4 fs)) mostLabels (c .0) in

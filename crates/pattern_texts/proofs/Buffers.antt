@@ -7,6 +7,7 @@ use native.Mathlib.Nat.{eq-or-lt-of-le, not-suc-le-zero}
 use native.Mathlib.Omega.{arith}
 use lib.ListN.{length, getD, length-append, List·getD-append}
 use lib.Seq.{getD-append-add, getD-at}
+use Rattle.lists.specs.Places.{at}
 use Rattle.sets.specs.Sets.{setOf}
 use Rattle.pattern_line.specs.Limits.{mostBeads, mostStates, mostLabels, ruleAt, statesAt, acceptingAt, nextAt, bufferLength}
 use Rattle.pattern_store.specs.Next.{statesOf}
@@ -14,7 +15,6 @@ use Rattle.pattern_store.specs.Format.{Known}
 use Rattle.lists.specs.Tables.{table}
 use Rattle.lists.proofs.Tables.{length-table, getD-table}
 use Rattle.pattern_store.specs.Buffer.{beadCount, ruleOfBead, acceptingOf, nextOf, bufferOf}
-use Rattle.pattern_buffer.specs.Meaning.{at}
 
 -- ---- tables
 

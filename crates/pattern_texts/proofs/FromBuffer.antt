@@ -12,6 +12,7 @@ use lib.Dec.{eqb}
 use lib.ListN.{length, getD, take, List·getD-eq-default}
 use lib.Pow.{pow-mono}
 use lib.Seq.{getD-take, ext-getD, length-take-le}
+use Rattle.lists.specs.Places.{at}
 use Rattle.sets.specs.Sets.{member, setOf}
 use Rattle.sets.proofs.Truth.{no-false}
 use Rattle.sets.proofs.Laws.{ext, setOf-below, member-setOf, below-within}
@@ -22,7 +23,7 @@ use Rattle.pattern_store.specs.Format.{Known}
 use Rattle.lists.specs.Tables.{table}
 use Rattle.lists.proofs.Tables.{length-table, getD-table}
 use Rattle.pattern_store.specs.Buffer.{ruleOfBead, acceptingOf, nextOf, bufferOf}
-use Rattle.pattern_buffer.specs.Meaning.{at, labelsIn, beadsIn}
+use Rattle.pattern_buffer.specs.Meaning.{labelsIn, beadsIn}
 use Rattle.pattern_texts.specs.Spelled.{rowIn, rowsOfBead, rowsOfBeads, rowsOf}
 use Rattle.pattern_buffer.proofs.Places.{unused-out, states-fit, next-unused, Passes, bead-there}
 use Rattle.pattern_texts.proofs.Rows.{states-nil, states-append, states-here, states-other, rule-none, Found, found, missing, find}

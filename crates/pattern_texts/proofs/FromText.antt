@@ -10,6 +10,7 @@ use borrow.Author.Tests.{not-false}
 use lib.Dec.{T}
 use lib.ListN.{length, getD, take, List·getD-eq-default}
 use lib.Seq.{getD-take}
+use Rattle.lists.specs.Places.{at}
 use Rattle.sets.specs.Sets.{member, setOf}
 use Rattle.sets.proofs.Truth.{false-no}
 use Rattle.sets.proofs.Laws.{within-below, setOf-above, member-setOf}
@@ -18,7 +19,7 @@ use Rattle.pattern_order.specs.Row.{Row}
 use Rattle.pattern_store.specs.Next.{statesOf, allWithin}
 use Rattle.pattern_store.specs.Format.{Known}
 use Rattle.pattern_store.specs.Buffer.{ruleOfBead, acceptingOf, nextOf, bufferOf}
-use Rattle.pattern_buffer.specs.Meaning.{at, labelsIn, beadsIn}
+use Rattle.pattern_buffer.specs.Meaning.{labelsIn, beadsIn}
 use Rattle.pattern_buffer.proofs.Places.{Bead, bead-in, Unused, Next, next-in, Passes}
 use Rattle.pattern_texts.proofs.Rows.{rule-none, Found, found, missing, find}
 use Rattle.pattern_texts.proofs.Ordered.{Told, told}

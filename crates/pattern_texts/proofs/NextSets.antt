@@ -8,16 +8,15 @@ use borrow.Author.Tests.{eq-eqb, lt-ltb, ltb-true, eqb-true, not-false}
 use lib.Dec.{T, eqb}
 use lib.ListN.{length, getD}
 use Rattle.sets.specs.Sets.{within, single}
-use Rattle.sets.proofs.Truth.{yes-true, true-yes}
+use Rattle.sets.proofs.Truth.{yes-true, true-yes, both-true}
 use Rattle.pattern_order.specs.Row.{Row}
 use Rattle.pattern_store.specs.Next.{allWithin, allSingle, ambiguous}
-use Rattle.pattern_texts.proofs.RowTests.{and-true}
 
 pub within-out : (n : ℕ) (ss : List ℕ) → allWithin n ss ≡ true → (a : ℕ) → a < length ss → getD ss a 0 < 2 ^ n
 unfolding allWithin
 within-out n [] e a h = absurd (omega arith)
-within-out n (s ∷ ss) e zero h = ltb-true s (2 ^ n) (and-true (within n s) (allWithin n ss) e .0)
-within-out n (s ∷ ss) e (suc a) h = within-out n ss (and-true (within n s) (allWithin n ss) e .1) a (omega arith)
+within-out n (s ∷ ss) e zero h = ltb-true s (2 ^ n) (both-true (within n s) (allWithin n ss) e .0)
+within-out n (s ∷ ss) e (suc a) h = within-out n ss (both-true (within n s) (allWithin n ss) e .1) a (omega arith)
 
 pub within-in : (n : ℕ) (ss : List ℕ) → ((a : ℕ) → a < length ss → getD ss a 0 < 2 ^ n) → allWithin n ss ≡ true
 unfolding allWithin
@@ -27,8 +26,8 @@ within-in n (s ∷ ss) f = rw (lt-ltb s (2 ^ n) (f 0 (omega arith))) (within-in 
 pub single-out : (ss : List ℕ) → allSingle ss ≡ true → (a : ℕ) → a < length ss → T (single 16 (getD ss a 0))
 unfolding allSingle
 single-out [] e a h = absurd (omega arith)
-single-out (s ∷ ss) e zero h = true-yes (single 16 s) (and-true (single 16 s) (allSingle ss) e .0)
-single-out (s ∷ ss) e (suc a) h = single-out ss (and-true (single 16 s) (allSingle ss) e .1) a (omega arith)
+single-out (s ∷ ss) e zero h = true-yes (single 16 s) (both-true (single 16 s) (allSingle ss) e .0)
+single-out (s ∷ ss) e (suc a) h = single-out ss (both-true (single 16 s) (allSingle ss) e .1) a (omega arith)
 
 pub single-in : (ss : List ℕ) → ((a : ℕ) → a < length ss → T (single 16 (getD ss a 0))) → allSingle ss ≡ true
 unfolding allSingle

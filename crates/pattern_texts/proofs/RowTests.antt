@@ -8,6 +8,7 @@ use native.Mathlib.Omega.{arith}
 use borrow.Author.Tests.{eq-eqb, ne-eqb, lt-ltb, le-ltb, eqb-true, eqb-false, ltb-true, ltb-false, not-false}
 use lib.Dec.{eqb, ltb}
 use lib.ListN.{length, getD, drop, length-drop, length-map}
+use Rattle.sets.proofs.Truth.{both-true, both-false}
 use Rattle.fields.specs.Fields.{sameBytes}
 use Rattle.numbers.specs.Numbers.{isNumber, valueOf}
 use Rattle.pattern_line.specs.Limits.{mostBeads, mostStates}
@@ -18,17 +19,9 @@ use Rattle.pattern_texts.proofs.Ordered.{Follows, same-bead, next-bead,
 
 -- ---- tests as Bools
 
-pub or-false : (a b : Bool) → (a || b) ≡ false → (a ≡ false) × (b ≡ false)
-or-false true b e = let z : _≡_ {A = ℕ} 0 1 = cc in absurd (omega arith)
-or-false false b e = (refl, e)
-
-pub and-true : (a b : Bool) → (a && b) ≡ true → (a ≡ true) × (b ≡ true)
-and-true true b e = (refl, e)
-and-true false b e = let z : _≡_ {A = ℕ} 0 1 = cc in absurd (omega arith)
-
-or-true : (a b : Bool) → (a || b) ≡ true → (a ≡ true) ⊎ (b ≡ true)
-or-true true b e = inl refl
-or-true false b e = inr e
+one-true : (a b : Bool) → (a || b) ≡ true → (a ≡ true) ⊎ (b ≡ true)
+one-true true b e = inl refl
+one-true false b e = inr e
 
 -- ---- after a last row
 
@@ -61,7 +54,7 @@ breaks-first r = refl
 -- ---- what the tests say
 
 step-out : (p r : Row) → 0 < p .bead → step p r ≡ true → breaks p r ≡ false → Follows p r
-step-out p r h s b = go (or-true inside next s)
+step-out p r h s b = go (one-true inside next s)
   where
     inside : Bool
     inside = eqb (r .bead) (p .bead) && eqb (r .state) (p .state + 1)
@@ -71,12 +64,12 @@ step-out p r h s b = go (or-true inside next s)
 
     go : (inside ≡ true) ⊎ (next ≡ true) → Follows p r
     go (inl e) =
-        let w = and-true (eqb (r .bead) (p .bead)) (eqb (r .state) (p .state + 1)) e in
+        let w = both-true (eqb (r .bead) (p .bead)) (eqb (r .state) (p .state + 1)) e in
         let k : not (eqb (r .rule) (p .rule)) ≡ false = rw (w .0) at b in
         same-bead h (eqb-true (r .bead) (p .bead) (w .0)) (eqb-true (r .state) (p .state + 1) (w .1))
         (eqb-true (r .rule) (p .rule) (not-false (eqb (r .rule) (p .rule)) k))
     go (inr e) =
-        let w = and-true (eqb (r .bead) (p .bead + 1)) (eqb (r .state) 0) e in
+        let w = both-true (eqb (r .bead) (p .bead + 1)) (eqb (r .state) 0) e in
         let d = eqb-true (r .bead) (p .bead + 1) (w .0) in
         let k : eqb (r .rule) (p .rule) ≡ false = rw (ne-eqb (r .bead) (p .bead) (λ z. omega arith)) at b in
         next-bead d (eqb-true (r .state) 0 (w .1)) (eqb-false (r .rule) (p .rule) k)
@@ -94,7 +87,7 @@ last-positive {rs = rs} r o f l = told (more r o f l) .each r (Memᴰ·append-ri
 pub follows-out : {c : ℕ} {rs : List Row} {p : Row} → Ordered c rs p → (r : Row) → 1 ≤ r .rule → followsLast rs r ≡ true → breaksTurns rs r ≡ false
     → Follows p r
 follows-out start r h s b =
-    let w = and-true (eqb (r .bead) 1) (eqb (r .state) 0) (sym (follows-first r) ∙ s) in
+    let w = both-true (eqb (r .bead) 1) (eqb (r .state) 0) (sym (follows-first r) ∙ s) in
     next-bead (eqb-true (r .bead) 1 (w .0)) (eqb-true (r .state) 0 (w .1)) (λ z. omega arith)
 follows-out (more {rs = rs} p o f l) r h s b =
     step-out p r (last-positive p o f l) (sym (follows-snoc rs p r) ∙ s) (sym (breaks-snoc rs p r) ∙ b)
@@ -109,10 +102,10 @@ follows-in (more {rs = rs} p o f l) r g = let w = step-in p r g in (follows-snoc
 pub row-out : {c : ℕ} {rs : List Row} {p : Row} → Ordered c rs p → (r : Row) → r .rule ≤ 2 → length (r .next) ≡ c → disordered rs r ≡ false
     → misruled rs r ≡ false → Follows p r × Fits c r
 row-out {c} {rs} {p} o r h k d m =
-    let d1 = or-false (not (followsLast rs r)) (ltb mostBeads (r .bead) || (not (ltb (r .state) mostStates) || ltb 1 (r .accepting))) d in
-    let d2 = or-false (ltb mostBeads (r .bead)) (not (ltb (r .state) mostStates) || ltb 1 (r .accepting)) (d1 .1) in
-    let d3 = or-false (not (ltb (r .state) mostStates)) (ltb 1 (r .accepting)) (d2 .1) in
-    let m1 = or-false (eqb (r .rule) 0) (breaksTurns rs r) m in
+    let d1 = both-false (not (followsLast rs r)) (ltb mostBeads (r .bead) || (not (ltb (r .state) mostStates) || ltb 1 (r .accepting))) d in
+    let d2 = both-false (ltb mostBeads (r .bead)) (not (ltb (r .state) mostStates) || ltb 1 (r .accepting)) (d1 .1) in
+    let d3 = both-false (not (ltb (r .state) mostStates)) (ltb 1 (r .accepting)) (d2 .1) in
+    let m1 = both-false (eqb (r .rule) 0) (breaksTurns rs r) m in
     let low : 1 ≤ r .rule = positive (r .rule) (eqb-false (r .rule) 0 (m1 .0)) in (
       follows-out o r low (not-false (followsLast rs r) (d1 .0)) (m1 .1),
       record {
@@ -154,7 +147,7 @@ rule-most f = go (sameBytes f (83 ∷ 79 ∷ 77 ∷ 69 ∷ [])) (sameBytes f (65
 
 pub labelled-out : (c : ℕ) (fs : List (List ℕ)) → malformed c fs ≡ false → length (rowOf fs .next) ≡ c
 labelled-out c fs m =
-    let w = or-false (not (eqb (length fs) (4 + c)))
+    let w = both-false (not (eqb (length fs) (4 + c)))
     (not (isNumber (getD fs 0 []) && (isNumber (getD fs 2 []) && (isNumber (getD fs 3 []) && areNumbers (drop 4 fs))))) m
     in
     let e : length fs ≡ 4 + c = eqb-true (length fs) (4 + c) (not-false (eqb (length fs) (4 + c)) (w .0)) in

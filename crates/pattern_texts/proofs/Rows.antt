@@ -2,12 +2,13 @@
 use Prim.Native.Nat.{ℕ, _+_, _<_, max}
 use mathlib.Core.Path.{_≡_, refl, sym, ap, _∙_}
 use mathlib.Core.Logic.{_⊎_, inl, inr}
-use mathlib.Core.Bool.{Bool, true, false, cond, _&&_}
+use mathlib.Core.Bool.{Bool, true, false, cond}
 use mathlib.Core.List.{List, [], _∷_, _++_, append-nil, List·Memᴰ, List·Memᴰ·head, List·Memᴰ·tail, List·Memᴰ·cases-cons, List·Memᴰ·not-nil}
 use native.Mathlib.Omega.{arith}
 use borrow.Author.Tests.{eq-eqb, ne-eqb, eqb-true, eqb-false}
 use lib.Dec.{eqb}
 use lib.ListN.{getD}
+use Rattle.sets.proofs.Truth.{both-true}
 use Rattle.pattern_order.specs.Row.{Row}
 use Rattle.pattern_store.specs.Next.{statesOf}
 use Rattle.pattern_store.specs.Buffer.{beadCount, ruleOfBead, isAt, acceptingOf, nextOf}
@@ -97,10 +98,6 @@ pub data Found (rs : List Row) (β q : ℕ) : Type 0 where
   missing : ((r : Row) → List·Memᴰ r rs → r .bead ≡ β → r .state ≡ q → ⊥) → acceptingOf rs β q ≡ false
       → ((a : ℕ) → nextOf rs β q a ≡ 0) → Found rs β q
 
-both : (s t : Bool) → (s && t) ≡ true → (s ≡ true) × (t ≡ true)
-both true t e = (refl, e)
-both false t e = let z : _≡_ {A = ℕ} 0 1 = cc in absurd (omega arith)
-
 pub find : (rs : List Row) (β q : ℕ) → Found rs β q
 unfolding acceptingOf nextOf
 find [] β q = missing (λ r m e f. List·Memᴰ·not-nil m) refl (λ a. refl)
@@ -117,7 +114,7 @@ find (r ∷ rs) β q = go (isAt r β q) refl (find rs β q)
 
     go : (t : Bool) → isAt r β q ≡ t → Found rs β q → Found (r ∷ rs) β q
     go true e f =
-        let w = both (eqb (r .bead) β) (eqb (r .state) q) e in
+        let w = both-true (eqb (r .bead) β) (eqb (r .state) q) e in
         found r (List·Memᴰ·head refl) (eqb-true (r .bead) β (w .0)) (eqb-true (r .state) q (w .1)) (rw e) (λ a. rw e)
     go false e (found s m p w x y) = found s (List·Memᴰ·tail m) p w (rw e x) (λ a. rw e (y a))
     go false e (missing f x y) = missing (λ s m p w. no-more e f s (List·Memᴰ·cases-cons m) p w) (rw e x) (λ a. rw e (y a))

@@ -9,7 +9,7 @@ use borrow.Author.Tests.{eqb-true}
 use lib.Dec.{T, eqb}
 use lib.ListN.{length}
 use Rattle.sets.specs.Sets.{allBelow}
-use Rattle.sets.proofs.Truth.{yes-true, true-yes}
+use Rattle.sets.proofs.Truth.{yes-true, true-yes, both-true}
 use Rattle.sets.proofs.Below.{all-out}
 use Rattle.text.specs.Split.{split, joined}
 use Rattle.text.specs.Lines.{printable, whole}
@@ -22,7 +22,6 @@ use Rattle.pattern_store.specs.Format.{patternText}
 use Rattle.pattern_buffer.specs.Meaning.{labelsIn}
 use Rattle.pattern_texts.specs.Spelled.{namesUpTo, textOf, Heads}
 use Rattle.pattern_buffer.proofs.Places.{Passes}
-use Rattle.pattern_texts.proofs.RowTests.{and-true}
 use Rattle.pattern_texts.proofs.FromBuffer.{known}
 use Rattle.pattern_texts.proofs.TextUnder.{under-length, under-accepted}
 
@@ -45,9 +44,9 @@ header-heads : (c : ℕ) → 1 ≤ c → c ≤ mostLabels → Heads c (headerByt
 header-heads c low high =
     let z : c - 1 + 1 ≡ c = omega arith in
     let t = all-out 16 (λ i. heads (i + 1)) (true-yes (allBelow 16 (λ i. heads (i + 1))) headers-computed) (c - 1) (omega arith) in
-    let w = and-true (isWhole c) (isHeader (split 32 (headerBytes c)) && eqb (labelCount (split 32 (headerBytes c))) c)
+    let w = both-true (isWhole c) (isHeader (split 32 (headerBytes c)) && eqb (labelCount (split 32 (headerBytes c))) c)
     (yes-true (heads c) (subst (λ (n : ℕ). T (heads n)) z t)) in
-    let v = and-true (isHeader (split 32 (headerBytes c))) (eqb (labelCount (split 32 (headerBytes c))) c) (w .1) in
+    let v = both-true (isHeader (split 32 (headerBytes c))) (eqb (labelCount (split 32 (headerBytes c))) c) (w .1) in
     record { is-whole = w .0; is-header = v .0; names = eqb-true (labelCount (split 32 (headerBytes c))) c (v .1) }
 
 -- ---- the text

@@ -11,6 +11,9 @@ use lib.Dec.{T, leb}
 use lib.ListN.{length, getD, length-append}
 use lib.Pow.{pow-mono}
 use lib.Seq.{append-snoc}
+use Rattle.text.proofs.WalkLaws.{walk-nil, walk-cons, walk-step, accepted-same}
+use Rattle.sets.proofs.Truth.{both-true}
+use Rattle.lists.specs.Places.{at}
 use Rattle.sets.specs.Sets.{single}
 use Rattle.text.specs.Split.{joined, lineFrom}
 use Rattle.text.specs.Lines.{TextLine, linesOf, printable}
@@ -21,13 +24,13 @@ use Rattle.pattern_store.specs.Next.{statesOf, allWithin, strays, ambiguous}
 use Rattle.pattern_row.specs.Fields.{rowOf, malformed}
 use Rattle.pattern_store.specs.Format.{Known, judgeRow, judgeLine, patternFormat, judgeNext, conclude, patternText}
 use Rattle.lists.specs.Tables.{table}
-use Rattle.pattern_buffer.specs.Meaning.{at, labelsIn, beadsIn}
+use Rattle.pattern_buffer.specs.Meaning.{labelsIn, beadsIn}
 use Rattle.pattern_texts.specs.Spelled.{rowIn, rowsOfBead, rowsOfBeads, rowsOf, fieldsOf, rowLines, textUnder, Heads}
 use Rattle.pattern_buffer.proofs.Places.{Passes, bead-there, next-there}
 use Rattle.pattern_texts.proofs.Ordered.{Ordered, start, more}
-use Rattle.pattern_texts.proofs.RowTests.{and-true, row-in}
+use Rattle.pattern_texts.proofs.RowTests.{row-in}
 use Rattle.pattern_texts.proofs.NextSets.{within-in, single-in, unambiguous}
-use Rattle.pattern_texts.proofs.Accepted.{walk-nil, walk-cons, walk-step, accepted-same, known-more}
+use Rattle.pattern_texts.proofs.Accepted.{known-more}
 use Rattle.lists.proofs.Tables.{length-table, getD-table}
 use Rattle.pattern_texts.proofs.FromBuffer.{rows-out, states-again, row-there, known, rows-told, rows-ordered}
 use Rattle.text.proofs.Spelled.{split-parts, length-line, printable-joined, no-lines, next-line, lines-from}
@@ -114,7 +117,7 @@ next-walk all (r ∷ rs) k n f =
 
 module _ (c : ℕ) (header : List ℕ) (g : Heads c header) where
   header-facts : (leb (length header) mostLine ≡ true) × (printable header ≡ true)
-  header-facts = and-true (leb (length header) mostLine) (printable header) (g .is-whole)
+  header-facts = both-true (leb (length header) mostLine) (printable header) (g .is-whole)
 
   header-short : length header ≤ 240
   header-short = leb-true (length header) mostLine (header-facts .0)

@@ -4,6 +4,7 @@ use mathlib.Core.Path.{_≡_}
 use mathlib.Core.Bool.{true, cond}
 use mathlib.Core.List.{List, [], _∷_, _++_, map}
 use lib.Dec.{eqb}
+use Rattle.lists.specs.Places.{at}
 use Rattle.sets.specs.Sets.{member}
 use Rattle.text.specs.Split.{split, lineFrom}
 use Rattle.text.specs.Lines.{whole}
@@ -13,7 +14,7 @@ use Rattle.pattern_header.specs.Header.{columns}
 use Rattle.pattern_order.specs.Row.{Row}
 use Rattle.pattern_header.specs.Header.{isHeader, labelCount}
 use Rattle.lists.specs.Tables.{table}
-use Rattle.pattern_buffer.specs.Meaning.{at, labelsIn, beadsIn}
+use Rattle.pattern_buffer.specs.Meaning.{labelsIn, beadsIn}
 
 -- The row of the state q of the bead at place j.
 abbrev pub rowIn : List ℕ → ℕ → ℕ → Row

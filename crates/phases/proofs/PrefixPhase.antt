@@ -1,8 +1,8 @@
 -- The first phase: which prefixes hold, marked bead by bead.
 -- Assumes nothing.
 use Prim.Native.Nat.{ℕ, suc, _+_, _-_, _*_, _/_, _%_, _≤_, _<_, min}
-use mathlib.Core.Path.{_≡_, refl, sym, ap, _∙_}
-use mathlib.Core.Bool.{Bool, true, false, _&&_, _||_}
+use mathlib.Core.Path.{_≡_, sym, ap, _∙_}
+use mathlib.Core.Bool.{Bool, true, false, _&&_, _||_, or-false}
 use mathlib.Core.List.{List}
 use native.Mathlib.Nat.{div-add-mod', lt-of-lt-of-le, mul-le-mul-right}
 use native.Mathlib.Decide.{ℕ-discrete, decLt}
@@ -27,10 +27,6 @@ use Rattle.phases.specs.Phases.{MarkedUpTo, servesFrom}
 pub one-turn : (n j w k v : ℕ) → w < n → v < n → j * n + w ≡ k * n + v → (j ≡ k) × (w ≡ v)
 one-turn n j w k v h l e =
     (sym (digits-div j h) ∙ ap (λ (x : ℕ). x / n) e ∙ digits-div k l, sym (digits-mod j h) ∙ ap (λ (x : ℕ). x % n) e ∙ digits-mod k l)
-
-or-false : (b : Bool) → (b || false) ≡ b
-or-false true = refl
-or-false false = refl
 
 module _ (G : Dag) (P : Pattern) (n : ℕ) (marks : List ℕ) where
   pub marked-none : ((v : ℕ) → getD marks v 0 ≡ 0) → MarkedUpTo G P n 0 marks

@@ -7,7 +7,6 @@ ghost use Rattle.step_table.specs.Table.{Tabled};
 ghost use Rattle.passes.specs.Passes.{Earlier};
 ghost use Rattle.marking.specs.Marking.{Added};
 ghost use Rattle.phases.specs.Phases.{Tried, Turns, TurnOf, TableAt, Marks, satisfiesFrom, servesFrom, Unmarked};
-use crate::wide;
 
 // Adds the bead to the prefixes of the steps on which it holds from u: one forward pass.
 fn pass_from(
@@ -116,7 +115,7 @@ pub fn mark_prefixes(pattern: &[u16], log: &[u16], prefixes: &mut [u16], work: &
     requires { ⌜ (1024 ≤ length (now prefixes)) × (16384 ≤ length (now work)) ⌝ }
     ensures { λ _. ⌜ Marks (logOf (now (log .entry))) (patternOf (now (pattern .entry))) (stepsIn (now (log .entry))) (now (prefixes .exit)) ⌝ }
 {
-    let beads = wide(pattern[1]);
-    let n = wide(log[0]);
+    let beads = lists::wide(pattern[1]);
+    let n = lists::wide(log[0]);
     mark_turns(pattern, log, n, beads * n, prefixes, work);
 }

@@ -8,7 +8,6 @@ ghost use Rattle.pattern_buffer.specs.Meaning.{patternOf, beadsIn};
 ghost use Rattle.passes.specs.Passes.{ReadyFor};
 ghost use Rattle.rows.specs.Rows.{pivotAt};
 ghost use Rattle.phases.specs.Phases.{Tried, Marks, Begun, Walk, SetAt, WalkedDownTo};
-use crate::wide;
 use passes::Ready;
 use passes::serving;
 
@@ -37,7 +36,7 @@ fn pivot_after(beads: usize, step: usize, pivots: &[u16]) -> usize
     requires { ⌜ (beads ≤ 8) × (step < 1024) × (9216 ≤ length (now pivots)) ⌝ }
     ensures { λ r. ⌜ r ≡ getD (now (pivots .entry)) (pivotAt beads step) 0 ⌝ }
 {
-    wide(pivots[1024 * beads + step])
+    lists::wide(pivots[1024 * beads + step])
 }
 
 // The turns of the walk, from the last to the first: beads downwards and, for each bead, steps downwards. Before a bead's pivot the
@@ -97,8 +96,8 @@ pub fn walk_back(
     requires { ⌜ ReadyFor (logOf (now log)) (patternOf (now pattern)) (stepsIn (now log)) ready (now work) (now flags) ⌝ }
     ensures { λ _. ⌜ WalkedDownTo (logOf (now (log .entry))) (patternOf (now (pattern .entry))) (stepsIn (now (log .entry))) 0 (now (pivots .exit)) ⌝ }
 {
-    let beads = wide(pattern[1]);
-    let n = wide(log[0]);
+    let beads = lists::wide(pattern[1]);
+    let n = lists::wide(log[0]);
     begin_walk(beads, n, pivots);
     walk_turns(
         pattern,

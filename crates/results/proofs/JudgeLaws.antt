@@ -3,12 +3,12 @@
 use Prim.Native.Nat.{ℕ, _+_, _-_, _*_, _≤_, _<_}
 use mathlib.Core.Path.{_≡_, refl, sym, ap, ap₂, _∙_}
 use mathlib.Core.List.{List, _++_, append-assoc}
-use native.Mathlib.Decide.{decLt}
 use native.Mathlib.Omega.{arith}
 use lib.Dec.{T}
-use lib.ListN.{length, getD, take, drop, replicate, length-append, length-drop, getD-replicate, length-replicate, List·getD-eq-default}
+use lib.ListN.{length, getD, take, drop, replicate, length-append, length-drop}
 use lib.Seq.{take-at, drop-append-add}
 use lib.Seq.{drop-drop}
+use Rattle.lists.proofs.Tables.{zeros-at}
 use Rattle.necklace.specs.Dag.{Dag}
 use Rattle.necklace.specs.Necklace.{Pattern}
 use Rattle.rows.specs.Rows.{rowsFrom, wholeFrom}
@@ -48,15 +48,8 @@ pub ruleset result-kit = (written-result, rows-length-is)
 
 -- ---- what the tests give
 
-zero-at : (n v : ℕ) → _≡_ {A = ℕ} (getD (replicate n 0) v 0) 0
-zero-at n v = go (decLt v n)
-  where
-    go : Dec (v < n) → _≡_ {A = ℕ} (getD (replicate n 0) v 0) 0
-    go (yes h) = getD-replicate n v 0 0 h
-    go (no h) = List·getD-eq-default (replicate n 0) 0 {n = v} (let e = length-replicate {A = ℕ} n 0 in omega arith)
-
 pub unmarked-zeros : (n : ℕ) → Unmarked (replicate n 0)
-unmarked-zeros n = record { none = zero-at n }
+unmarked-zeros n = record { none = zeros-at n }
 
 module _ (pattern log : List ℕ) (beads n : ℕ) (s : Sized pattern log beads n) (prefixes : List ℕ) (m : Marks (logOf log) (patternOf pattern) (stepsIn log) prefixes) where
   some : 1 ≤ beadsIn pattern

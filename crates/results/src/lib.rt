@@ -72,12 +72,6 @@ fn judge_arrays(
     finish(beads, n, &prefixes, &pivots, result)
 }
 
-fn wide(x: u16) -> usize
-    ensures { λ r. ⌜ r ≡ x ⌝ }
-{
-    x as usize
-}
-
 // Judges buffers that passed their tests, and leaves zeros in the work buffer.
 pub fn judge_tried(pattern: &[u16], log: &[u16], result: &mut [u16], work: &mut [u16]) -> u16
     requires { ⌜ Tried (now pattern) (now log) ⌝ }
@@ -87,7 +81,7 @@ pub fn judge_tried(pattern: &[u16], log: &[u16], result: &mut [u16], work: &mut 
     ensures { λ _. ⌜ now (work .exit) ≡ replicate (length (now (work .entry))) 0 ⌝ }
 {
     let beads = pattern[1];
-    let n = wide(log[0]);
+    let n = lists::wide(log[0]);
     let count = judge_arrays(pattern, log, beads, n, result, work);
     backward::clear(work);
     count

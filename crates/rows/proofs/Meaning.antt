@@ -8,9 +8,9 @@ use native.Mathlib.Decide.{decLt}
 use native.Mathlib.Omega.{arith}
 use borrow.Author.Tests.{le-leb, lt-leb}
 use lib.Dec.{T, leb}
-use lib.ListN.{length, getD, drop, replicate, List·getD-append, List·getD-eq-default, getD-replicate, length-append, length-replicate}
+use lib.ListN.{length, getD, drop, replicate, List·getD-append, length-append}
 use lib.Seq.{getD-drop, getD-append-add}
-use Rattle.lists.proofs.Tables.{table-is}
+use Rattle.lists.proofs.Tables.{table-is, zeros-at}
 use Rattle.sets.specs.Sets.{member}
 use Rattle.sets.proofs.Truth.{true-yes, false-no}
 use Rattle.necklace.specs.Dag.{Dag}
@@ -23,13 +23,6 @@ use Rattle.rows.specs.Rows.{pivotAt, pivotOr, rowPlace, rowFrom, rowsFro
 pub record Ready (G : Dag) (P : Pattern) (n : ℕ) (sets places : List ℕ) : Type 0 where
   pub marked : (v : ℕ) → v < n → getD sets v 0 ≡ prefixes G P v
   pub walked : (k v : ℕ) → k ≤ P .count → v < n → T (holds? G P (P .count) v) → getD places (pivotAt k v) 0 ≡ getD (pivots G P (P .count) v) k 0
-
-zeros : (n k : ℕ) → _≡_ {A = ℕ} (getD (replicate n 0) k 0) 0
-zeros n k = go (decLt k n)
-  where
-    go : Dec (k < n) → _≡_ {A = ℕ} (getD (replicate n 0) k 0) 0
-    go (yes h) = getD-replicate n k 0 0 h
-    go (no h) = List·getD-eq-default (replicate n 0) 0 {n = k} (let e = length-replicate {A = ℕ} n 0 in omega arith)
 
 module _ (G : Dag) (P : Pattern) (some : 1 ≤ P .count) (few : P .count ≤ 8) (v : ℕ) where
   last-bit : member (P .count - 1) (prefixes G P v) ≡ holds? G P (P .count) v
@@ -53,7 +46,7 @@ module _ (G : Dag) (P : Pattern) (some : 1 ≤ P .count) (few : P .count ≤ 8) 
             let e : k ≡ length (pivots G P (P .count) v) + (k - suc (P .count)) = omega (arith, len) in
             ap (λ (i : ℕ). getD (pivots G P (P .count) v ++ replicate (8 - P .count) 0) i 0) e
             ∙ getD-append-add (pivots G P (P .count) v) (replicate (8 - P .count) 0) (k - suc (P .count)) 0
-            ∙ zeros (8 - P .count) (k - suc (P .count)) ∙ sym (rw (lt-leb k (P .count) h) refl)
+            ∙ zeros-at (8 - P .count) (k - suc (P .count)) ∙ sym (rw (lt-leb k (P .count) h) refl)
         go (no h) =
             let g : k ≤ P .count = omega arith in
             List·getD-append (pivots G P (P .count) v) (replicate (8 - P .count) 0) 0 k (omega (arith, len))
@@ -61,7 +54,7 @@ module _ (G : Dag) (P : Pattern) (some : 1 ≤ P .count) (few : P .count ≤ 8) 
 
     place : (k : ℕ) (b : Bool) → holds? G P (P .count) v ≡ b → getD (drop 1 (row G P v)) k 0 ≡ pivotOr (P .count) b k v places
     place k true e = held k (true-yes (holds? G P (P .count) v) e)
-    place k false e = ap (λ (l : List ℕ). getD l k 0) (row-fails G P v (false-no (holds? G P (P .count) v) e)) ∙ zeros 9 k
+    place k false e = ap (λ (l : List ℕ). getD l k 0) (row-fails G P v (false-no (holds? G P (P .count) v) e)) ∙ zeros-at 9 k
 
     pub row-is : (s : ℕ) → s ≡ prefixes G P v → rowFrom (P .count) v s places ≡ row G P v
     row-is s e = table-is (rowPlace (P .count) v s places) 10 (row G P v) (row-length G P v) (λ i h. at-place i)

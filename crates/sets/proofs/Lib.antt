@@ -1,4 +1,5 @@
 pub mod Truth
 pub mod Bits
 pub mod Laws
+pub mod Agree
 pub mod Below

@@ -1,7 +1,7 @@
 -- Tests as Bools: what `||` and `&&` say, and the three ways to say that a test passes or fails.
-use mathlib.Core.Path.{_≡_, refl, subst}
+use mathlib.Core.Path.{_≡_, refl, subst, ap, _∙_}
 use mathlib.Core.Logic.{_⊎_, inl, inr}
-use mathlib.Core.Bool.{Bool, true, false, not, _&&_, _||_}
+use mathlib.Core.Bool.{Bool, true, false, not, _&&_, _||_, and-eq-true-iff, and-false, or-false}
 use lib.Dec.{T}
 
 pub or-l : (a b : Bool) → T a → T (a || b)
@@ -27,6 +27,18 @@ and-l false b t = absurd t
 pub and-r : (a b : Bool) → T (a && b) → T b
 and-r true b t = t
 and-r false b t = absurd t
+
+-- the same with the values said
+pub both-true : (a b : Bool) → (a && b) ≡ true → (a ≡ true) × (b ≡ true)
+both-true a b e = and-eq-true-iff a b .0 e
+
+pub both-false : (a b : Bool) → (a || b) ≡ false → (a ≡ false) × (b ≡ false)
+both-false true b e = absurd (subst T e tt)
+both-false false b e = (refl, e)
+
+-- a test of which one part fails adds nothing
+pub or-none : (a b : Bool) → (a || (b && false)) ≡ a
+or-none a b = ap (λ (t : Bool). a || t) (and-false b) ∙ or-false a
 
 -- two tests that pass together are one
 pub same : (a b : Bool) → (T a → T b) → (T b → T a) → a ≡ b

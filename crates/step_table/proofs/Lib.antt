@@ -1,3 +1,2 @@
-pub mod SetLaws
 pub mod FilledLaws
 pub mod TableLaws

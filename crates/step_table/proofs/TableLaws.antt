@@ -1,27 +1,28 @@
 -- The step table: what the loops that make it and read it keep, and what it says of the theory.
 use Prim.Native.Nat.{ℕ, _+_, _*_, _/_, _%_, _^_, _≤_, _<_}
 use mathlib.Core.Path.{_≡_, refl, sym, ap, _∙_, subst}
-use mathlib.Core.Bool.{Bool, true, false, _&&_, _||_}
+use mathlib.Core.Bool.{Bool, true, false, _&&_, _||_, or-false}
 use mathlib.Core.List.{List, [], _∷_}
 use native.Mathlib.Omega.{arith}
 use borrow.Author.Tests.{eqb-true}
 use lib.Dec.{T, eqb, eqb→eq, eqb-refl}
 use lib.ListN.{length, getD, set}
+use Rattle.sets.proofs.Agree.{setOf-ext, setOf-empty, setOf-one, someBelow-ext, members-empty, empty-members}
+use Rattle.lists.specs.Places.{at}
 use Rattle.sets.specs.Sets.{_∈_, member, setOf, singleton, union, overlaps, someBelow, members}
 use Rattle.sets.proofs.Truth.{same, and-i, and-l, and-r}
 use Rattle.sets.proofs.Laws.{member-setOf, member-singleton, someBelow-none, someBelow-more, someBelow-out, someBelow-in, members-out}
 use Rattle.necklace.specs.Dag.{Dag}
 use Rattle.necklace.specs.Automaton.{Automaton}
 use Rattle.necklace.specs.Compute.{someOf, elem, enters}
-use Rattle.necklace.proofs.Lists.{someOf-out, someOf-in, elem-out, elem-in}
+use Rattle.necklace.proofs.Lists.{someOf-out, someOf-in, elem-out, elem-in, elem-members, someOf-members}
 use Rattle.pattern_line.specs.Limits.{nextAt}
 use Rattle.pattern_buffer.specs.Meaning.{automatonOf}
 use Rattle.log_line.specs.Limits.{labelsAt}
-use Rattle.log_buffer.specs.Meaning.{at, stepsIn, logOf}
+use Rattle.log_buffer.specs.Meaning.{stepsIn, logOf}
 use Rattle.log_buffer.proofs.Meaning.{labels-are}
 use Rattle.step_table.specs.Table.{reached, workAt, Tabled, Filled, Laid, pulled, BareIf}
 use Rattle.step_table.proofs.FilledLaws.{filled-none, filled-more}
-use Rattle.step_table.proofs.SetLaws.{setOf-ext, setOf-empty, setOf-one, someBelow-ext, elem-members, someOf-members, members-empty, empty-members}
 
 -- ---- entering a vertex
 
@@ -57,10 +58,6 @@ module _ (b : List ℕ) (j q labels : ℕ) where
         inv ∙ setOf-ext 16 (gathered b j q labels a) (gathered b j q labels (a + 1))
         (λ i l. sym (more i ∙ ap (λ (t : Bool). gathered b j q labels a i || (t && member i (getD b (nextAt j q a) 0))) (sym e ∙ y)
         ∙ or-false (gathered b j q labels a i)))
-      where
-        or-false : (t : Bool) → (t || false) ≡ t
-        or-false true = refl
-        or-false false = refl
 
     pub enter-end : labels < 2 ^ 16 → (labels ≡ 0 → ⊥) → a ≤ 16 → 16 ≤ a → all ≡ setOf 16 (reached (automatonOf b j) (members 16 labels) q)
     enter-end fits some h k =

@@ -5,12 +5,13 @@ use mathlib.Core.Bool.{Bool, true}
 use mathlib.Core.List.{List, [], _∷_}
 use lib.Dec.{eqb}
 use lib.ListN.{length, getD}
+use Rattle.lists.specs.Places.{at}
 use Rattle.sets.specs.Sets.{setOf, overlaps}
 use Rattle.necklace.specs.Dag.{Dag}
 use Rattle.necklace.specs.Automaton.{Automaton}
 use Rattle.necklace.specs.Compute.{someOf, elem}
 use Rattle.log_line.specs.Limits.{mostSteps, mostLinks, beginAt, linkAt, bufferLength}
-use Rattle.log_buffer.specs.Meaning.{at, stepsIn, logOf}
+use Rattle.log_buffer.specs.Meaning.{stepsIn, logOf}
 
 -- The states to which entering a vertex with these labels leads from q: q itself where there are none.
 abbrev pub reached : Automaton → List ℕ → ℕ → ℕ → Bool

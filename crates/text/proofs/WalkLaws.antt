@@ -19,6 +19,30 @@ use Rattle.lists.proofs.Parts.{rest-part}
 use Rattle.text.proofs.Spelled.{no-lines}
 use Rattle.text.proofs.LineLaws.{Lead, unended, ends, lead-of}
 
+-- ---- the walk, line by line
+
+pub accepted-same : {S : Type 0} (s t : S) → accepted s ≡ accepted t → s ≡ t
+accepted-same s t e = cc
+
+pub walk-nil : {S L : Type 0} (judge : S → ℕ → L → Judged S) (s : S) (n : ℕ) → walk judge s n [] ≡ accepted s
+unfolding walk
+walk-nil judge s n = refl
+
+pub walk-cons : {S L : Type 0} (judge : S → ℕ → L → Judged S) (s : S) (n : ℕ) (l : L) (ls : List L)
+    → walk judge s n (l ∷ ls) ≡ proceed n (judge s n l) (λ t. walk judge t (n + 1) ls)
+unfolding walk
+walk-cons judge s n l ls = refl
+
+-- An accepted walk passes its first line, and the rest of it is accepted.
+pub walk-step : {S L : Type 0} (judge : S → ℕ → L → Judged S) (s : S) (n : ℕ) (l : L) (ls : List L) (t : S) → walk judge s n (l ∷ ls) ≡ accepted t
+    → (u : S) × (judge s n l ≡ passed u) × (walk judge u (n + 1) ls ≡ accepted t)
+walk-step judge s n l ls t e = go (judge s n l) refl (sym (walk-cons judge s n l ls) ∙ e)
+  where
+    go : (j : Judged _) → judge s n l ≡ j → proceed n j (λ t. walk judge t (n + 1) ls) ≡ accepted t
+        → (u : _) × (judge s n l ≡ passed u) × (walk judge u (n + 1) ls ≡ accepted t)
+    go (refused k) p q = let z : _≡_ {A = ℕ} 0 1 = cc in absurd (omega arith)
+    go (passed u) p q = (u, p, q)
+
 -- ---- what a first line's answer says of the lines
 
 -- Which way the answer came about, from the three tests.

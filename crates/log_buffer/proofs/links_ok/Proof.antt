@@ -1,5 +1,6 @@
 -- The loop keeps: all links before i pass.
 use borrow.Author.Needs.{needs}
+use Rattle.lists.specs.Places.{at}
 use Rattle.log_buffer.proofs.TestLaws.{links, links-kit}
 use Prim.Native.Nat.{_≤_, _<_, _+_, _-_}
 use mathlib.Core.Path.{_≡_}
@@ -7,7 +8,7 @@ use mathlib.Core.Bool.{true}
 use lib.ListN.{length}
 use Rattle.sets.specs.Sets.{allBelow}
 use Rattle.log_line.specs.Limits.{bufferLength, mostLinks, beginAt}
-use Rattle.log_buffer.specs.Meaning.{at, stepsIn}
+use Rattle.log_buffer.specs.Meaning.{stepsIn}
 use Rattle.log_buffer.proofs.links_ok.Statement.{statement}
 use Rattle.log_buffer.proofs.links_ok.Tie as tie
 

@@ -1,17 +1,16 @@
 -- Tests below a bound, sets gathered by a test, and their members as a list: where the tests agree, so do they.
+-- Assumes nothing.
 use Prim.Native.Nat.{ℕ, zero, suc, _^_, _<_}
 use mathlib.Core.Path.{_≡_, refl, sym, ap₂, _∙_, subst}
+use mathlib.Core.Logic.{inl}
 use mathlib.Core.Bool.{Bool, false, _&&_, _||_}
-use mathlib.Core.List.{List, []}
+use mathlib.Core.List.{List, [], _∷_}
 use native.Mathlib.Omega.{arith}
-use lib.Dec.{T}
+use lib.Dec.{T, eqb, eqb→eq, eqb-refl}
 use Rattle.sets.specs.Sets.{_∈_, member, setOf, singleton, someBelow, members}
 use Rattle.sets.proofs.Truth.{same, and-i, and-l, and-r, false-no}
 use Rattle.sets.proofs.Bits.{member-empty}
-use Rattle.sets.proofs.Laws.{ext, no-member, setOf-below, member-setOf, singleton-below}
-use Rattle.sets.proofs.Laws.{someBelow-out, someBelow-in, members-out, members-in, below-within}
-use Rattle.necklace.specs.Compute.{someOf, elem}
-use Rattle.necklace.proofs.Lists.{someOf-out, someOf-in, elem-out, elem-in, no-members}
+use Rattle.sets.proofs.Laws.{ext, no-member, setOf-below, member-setOf, singleton-below, someBelow-out, someBelow-in, members-out, members-in, below-within}
 
 pub setOf-ext : (n : ℕ) (f g : ℕ → Bool) → ((i : ℕ) → i < n → f i ≡ g i) → setOf n f ≡ setOf n g
 setOf-ext n f g h =
@@ -32,24 +31,22 @@ unfolding someBelow
 someBelow-ext zero f g h = refl
 someBelow-ext (suc n) f g h = ap₂ _||_ (someBelow-ext n f g (λ i l. h i (omega arith))) (h n (omega arith))
 
-pub elem-members : (n s r : ℕ) → r < n → elem r (members n s) ≡ member r s
-elem-members n s r h =
-    same (elem r (members n s)) (member r s) (λ t. members-out n s r (elem-out r (members n s) t) .1) (λ t. elem-in r (members n s) (members-in n s r h t))
-
-pub someOf-members : (n s : ℕ) (f : ℕ → Bool) → someOf f (members n s) ≡ someBelow n (λ i. member i s && f i)
-someOf-members n s f = same (someOf f (members n s)) (someBelow n (λ i. member i s && f i)) forth back
+-- the numbers below n that pass and are r: r, if it passes
+pub someBelow-is : (n : ℕ) (f : ℕ → Bool) (r : ℕ) → r < n → someBelow n (λ q. f q && eqb r q) ≡ f r
+someBelow-is n f r h = same (someBelow n (λ q. f q && eqb r q)) (f r) forth back
   where
-    forth : T (someOf f (members n s)) → T (someBelow n (λ i. member i s && f i))
+    forth : T (someBelow n (λ q. f q && eqb r q)) → T (f r)
     forth t =
-        let r = someOf-out f (members n s) t in
-        let m = members-out n s (r .0) (r .1) in
-        someBelow-in n (λ i. member i s && f i) (r .0) (m .0) (and-i (member (r .0) s) (f (r .0)) (m .1) (r .2))
+        let s = someBelow-out n (λ q. f q && eqb r q) t in
+        subst (λ (q : ℕ). T (f q)) (sym (eqb→eq r (s .0) (and-r (f (s .0)) (eqb r (s .0)) (s .2)))) (and-l (f (s .0)) (eqb r (s .0)) (s .2))
 
-    back : T (someBelow n (λ i. member i s && f i)) → T (someOf f (members n s))
-    back t =
-        let r = someBelow-out n (λ i. member i s && f i) t in
-        someOf-in f (members n s) (r .0) (members-in n s (r .0) (r .1) (and-l (member (r .0) s) (f (r .0)) (r .2)))
-        (and-r (member (r .0) s) (f (r .0)) (r .2))
+    back : T (f r) → T (someBelow n (λ q. f q && eqb r q))
+    back t = someBelow-in n (λ q. f q && eqb r q) r h (and-i (f r) (eqb r r) t (eqb-refl r))
+
+-- a list without members is empty
+pub no-members : (xs : List ℕ) → ((x : ℕ) → x ∈ xs → ⊥) → xs ≡ []
+no-members [] h = refl
+no-members (x ∷ xs) h = absurd (h x (inl refl))
 
 -- the empty set has no members, and a set without members is empty
 pub members-empty : (n : ℕ) → members n 0 ≡ []
