@@ -16,7 +16,7 @@ use Rattle.answer.specs.Faults.{firstFault, answerOr, keptOr}
 use Rattle.text.specs.Split.{split}
 use Rattle.text.specs.Lines.{TextLine, linesOf, whole}
 use Rattle.text.specs.Walk.{Judged, refused, passed, Outcome, accepted, faulty, walk, badSize}
-use Rattle.text.specs.FirstBad.{AllPass, FirstBad}
+use Rattle.text.specs.FirstBad.{FirstBad}
 use Rattle.text.proofs.FirstBadLaws.{walk-accepts, walk-refuses, Numbered, bad-number, size-faulty, size-passes}
 use Rattle.log_line.specs.Limits.{mostText, mostLine, bufferLength}
 use Rattle.log_line.specs.Header.{columnsOf, isHeader}
@@ -24,7 +24,8 @@ use Rattle.log_line.specs.Step.{Step, stepOf, stepAt, malformed, misnumbered, m
 use Rattle.log_line.specs.Format.{Known, judgeValues, judgeStep, judgeLine, logFormat, conclude, logText}
 use Rattle.log_walk.specs.Filled.{answerOf, filledBy}
 use Rattle.log.specs.Answer.{badCount, logAnswer, logAfter}
-use Rattle.log.specs.Refused.{Called, Readable, Refused, short, labels, size, line, nothing}
+use Rattle.log.specs.Refused.{Called, Readable, LinesPass, Refused, short, labels, size, line, nothing}
+use Rattle.log.specs.Promise.{Promise, refused as refused-so, accepted as accepted-so}
 
 -- ---- no line is refused with 0
 
@@ -43,7 +44,8 @@ module _ (count : ℕ) where
   step-numbered : (k : Known) (n : ℕ) (fs : List (List ℕ)) → Numbered (judgeStep count k n fs)
   unfolding Numbered
   step-numbered k n fs =
-      go (malformed (k .columns) fs) (misnumbered (k .columns) n fs) (judgeValues count k (stepAt n) (stepOf (k .columns) fs)) (values-numbered k (stepAt n) (stepOf (k .columns) fs))
+      go (malformed (k .columns) fs) (misnumbered (k .columns) n fs) (judgeValues count k (stepAt n) (stepOf (k .columns) fs))
+      (values-numbered k (stepAt n) (stepOf (k .columns) fs))
     where
       go : (a b : Bool) (j : Judged Known) → Numbered j → Numbered (cond a (refused 21) (cond b (refused 23) j))
       go true b j r = λ z. absurd (omega arith)
@@ -119,7 +121,7 @@ module _ (text : List ℕ) (count : ℕ) (buffer : List ℕ) where
   walk-line : (number at : ℕ) → lines ≡ faulty number at ↔ FirstBad (judgeLine count) (logFormat count .start) 1 (linesOf text) number at
   walk-line number at = walk-refuses (judgeLine count) (logFormat count .start) 1 number at (linesOf text)
 
-  walk-all : (k : Known) → lines ≡ accepted k ↔ AllPass (judgeLine count) (logFormat count .start) 1 (linesOf text) k
+  walk-all : (k : Known) → lines ≡ accepted k ↔ LinesPass text count k
   walk-all k = walk-accepts (judgeLine count) (logFormat count .start) k 1 (linesOf text)
 
   answers : (number at : ℕ) → Refused text count buffer number at → logAnswer text count buffer ≡ refusedAt number at
@@ -144,37 +146,51 @@ module _ (text : List ℕ) (count : ℕ) (buffer : List ℕ) where
   numbers number at (line r b) z = bad-number (judgeLine count) (line-numbered count) b z
   numbers number at (nothing k r p e) z = absurd (omega arith)
 
+  none : logAnswer text count buffer .number ≡ 0 → (number at : ℕ) → Refused text count buffer number at → ⊥
+  none z number at r = numbers number at r (sym (ap (λ (a : Answer). a .number) (answers number at r)) ∙ z)
+
+  abbrev Promised : Type 0
+  Promised = Promise text count buffer (logAnswer text count buffer) (logAfter text count buffer)
+
   -- A call is refused by one of the list's entries, or it is accepted.
-  data Answered : Type 0 where
-    refused-so : (number at : ℕ) → Refused text count buffer number at → Answered
-    accepted-so : logAnswer text count buffer .number ≡ 0 → Answered
-
-  answered : Answered
-  answered = host (ltb (length buffer) bufferLength) refl (badCount count) refl (badSize mostText text) refl
+  pub log-promise : Promise text count buffer (logAnswer text count buffer) (logAfter text count buffer)
+  log-promise = host (ltb (length buffer) bufferLength) refl (badCount count) refl (badSize mostText text) refl
     where
-      steps : Readable text count buffer → (k : Known) → lines ≡ accepted k → (b : Bool) → eqb (length (k .steps)) 0 ≡ b → Answered
-      steps r k w true z = refused-so 26 1 (nothing k r (walk-all k .0 w) (eqb-true (length (k .steps)) 0 z))
-      steps r k w false z =
-          accepted-so (ap (λ (a : Answer). a .number) (called-answer (r .called) ∙ ap (λ (o : Outcome Known). answerOf (conclude o)) (size-passes (logFormat count) text (r .sized) ∙ w)) ∙ rw z refl)
+      refuse : (number at : ℕ) → Refused text count buffer number at → Promised
+      refuse number at r = refused-so number at r (answers number at r) (refused-keeps number at r)
 
-      walks : Readable text count buffer → (o : Outcome Known) → lines ≡ o → Answered
-      walks r (faulty number at) w = refused-so number at (line r (walk-line number at .0 w))
+      accept : Called count buffer → (k : Known) → LinesPass text count k → logText count text ≡ accepted k → Promised
+      accept c k p e =
+          let counts = called-answer c ∙ ap answerOf e in
+          accepted-so (none (ap (λ (a : Answer). a .number) counts))
+          (record { known = k; lines = p; counts = counts; fills = called-after c ∙ ap (λ (o : Outcome Known). filledBy o buffer) e })
+
+      steps : Readable text count buffer → (k : Known) → lines ≡ accepted k → (b : Bool) → eqb (length (k .steps)) 0 ≡ b → Promised
+      steps r k w true z = refuse 26 1 (nothing k r (walk-all k .0 w) (eqb-true (length (k .steps)) 0 z))
+      steps r k w false z = accept (r .called) k (walk-all k .0 w) (ap conclude (size-passes (logFormat count) text (r .sized) ∙ w) ∙ rw z refl)
+
+      walks : Readable text count buffer → (o : Outcome Known) → lines ≡ o → Promised
+      walks r (faulty number at) w = refuse number at (line r (walk-line number at .0 w))
       walks r (accepted k) w = steps r k w (eqb (length (k .steps)) 0) refl
 
-      host : (a : Bool) → ltb (length buffer) bufferLength ≡ a → (b : Bool) → badCount count ≡ b → (c : Bool) → badSize mostText text ≡ c → Answered
-      host true x b y c z = refused-so 1 0 (short (ltb-true (length buffer) bufferLength x))
-      host false x true y c z = refused-so 5 0 (labels (ltb-false (length buffer) bufferLength x) (true-yes (badCount count) y))
-      host false x false y true z = refused-so 20 0 (size (record { long = ltb-false (length buffer) bufferLength x; counted = false-no (badCount count) y }) (true-yes (badSize mostText text) z))
+      right : ltb (length buffer) bufferLength ≡ false → badCount count ≡ false → Called count buffer
+      right x y = record { long = ltb-false (length buffer) bufferLength x; counted = false-no (badCount count) y }
+
+      host : (a : Bool) → ltb (length buffer) bufferLength ≡ a → (b : Bool) → badCount count ≡ b → (c : Bool) → badSize mostText text ≡ c → Promised
+      host true x b y c z = refuse 1 0 (short (ltb-true (length buffer) bufferLength x))
+      host false x true y c z = refuse 5 0 (labels (ltb-false (length buffer) bufferLength x) (true-yes (badCount count) y))
+      host false x false y true z =
+          refuse 20 0 (size (right x y) (true-yes (badSize mostText text) z))
       host false x false y false z =
-          walks (record { called = record { long = ltb-false (length buffer) bufferLength x; counted = false-no (badCount count) y }; sized = false-no (badSize mostText text) z }) lines refl
+          walks (record { called = right x y; sized = false-no (badSize mostText text) z }) lines refl
 
   refused-by : (number at : ℕ) → logAnswer text count buffer ≡ refusedAt number at → (number ≡ 0 → ⊥) → Refused text count buffer number at
-  refused-by number at e n = go answered
+  refused-by number at e n = go log-promise
     where
-      go : Answered → Refused text count buffer number at
-      go (accepted-so z) = absurd (n (sym (ap (λ (a : Answer). a .number) e) ∙ z))
-      go (refused-so m i r) =
-          let q : refusedAt m i ≡ refusedAt number at = sym (answers m i r) ∙ e in
+      go : Promised → Refused text count buffer number at
+      go (accepted-so f a) = absurd (n (ap (λ (x : Answer). x .number) (sym e ∙ a .counts)))
+      go (refused-so m i r f k) =
+          let q : refusedAt m i ≡ refusedAt number at = sym f ∙ e in
           subst (λ (x : ℕ). Refused text count buffer x at) (ap (λ (a : Answer). a .number) q)
           (subst (λ (y : ℕ). Refused text count buffer m y) (ap (λ (a : Answer). a .line) q) r)
 
@@ -184,8 +200,8 @@ module _ (text : List ℕ) (count : ℕ) (buffer : List ℕ) where
 
   -- A call is accepted just where no refusal applies.
   pub log-accepted : logAnswer text count buffer .number ≡ 0 ↔ ((number at : ℕ) → Refused text count buffer number at → ⊥)
-  log-accepted = (λ z number at r. numbers number at r (sym (ap (λ (a : Answer). a .number) (answers number at r)) ∙ z), λ f. go f answered)
+  log-accepted = (none, λ f. go f log-promise)
     where
-      go : ((number at : ℕ) → Refused text count buffer number at → ⊥) → Answered → logAnswer text count buffer .number ≡ 0
-      go f (accepted-so z) = z
-      go f (refused-so m i r) = absurd (f m i r)
+      go : ((number at : ℕ) → Refused text count buffer number at → ⊥) → Promised → logAnswer text count buffer .number ≡ 0
+      go f (accepted-so g a) = ap (λ (x : Answer). x .number) (a .counts)
+      go f (refused-so m i r e k) = absurd (f m i r)

@@ -22,6 +22,10 @@ pub record Readable (text : List ℕ) (count : ℕ) (buffer : List ℕ) : Type 0
   pub called : Called count buffer
   pub sized : T (badSize mostText text) → ⊥
 
+-- All lines pass 21 to 26, and this is known after the last.
+abbrev pub LinesPass : List ℕ → ℕ → Known → Type 0
+LinesPass text count k = AllPass (judgeLine count) (logFormat count .start) 1 (linesOf text) k
+
 -- The refusal's number and line.
 pub data Refused (text : List ℕ) (count : ℕ) (buffer : List ℕ) : ℕ → ℕ → Type 0 where
   -- the log room is too short
@@ -34,5 +38,5 @@ pub data Refused (text : List ℕ) (count : ℕ) (buffer : List ℕ) : ℕ → �
   line : {number line : ℕ} → Readable text count buffer → FirstBad (judgeLine count) (logFormat count .start) 1 (linesOf text) number line
       → Refused text count buffer number line
   -- all lines pass, and there is no step at all
-  nothing : (k : Known) → Readable text count buffer → AllPass (judgeLine count) (logFormat count .start) 1 (linesOf text) k → length (k .steps) ≡ 0
+  nothing : (k : Known) → Readable text count buffer → LinesPass text count k → length (k .steps) ≡ 0
       → Refused text count buffer 26 1

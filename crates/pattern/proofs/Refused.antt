@@ -16,7 +16,7 @@ use Rattle.answer.specs.Faults.{firstFault, answerOr, keptOr}
 use Rattle.text.specs.Split.{split}
 use Rattle.text.specs.Lines.{TextLine, linesOf, whole}
 use Rattle.text.specs.Walk.{Judged, refused, passed, Outcome, accepted, faulty, walk, badSize}
-use Rattle.text.specs.FirstBad.{FirstBad}
+use Rattle.text.specs.FirstBad.{AllPass, done, next as next-line, FirstBad}
 use Rattle.text.proofs.FirstBadLaws.{walk-accepts, walk-refuses, Numbered, bad-number, size-faulty, size-passes}
 use Rattle.pattern_line.specs.Limits.{mostText, mostLine, bufferLength}
 use Rattle.pattern_header.specs.Header.{isHeader, labelCount}
@@ -26,6 +26,7 @@ use Rattle.pattern_store.specs.Next.{strays, ambiguous}
 use Rattle.pattern_store.specs.Format.{Known, judgeRow, judgeLine, judgeNext, patternFormat, conclude, patternText}
 use Rattle.pattern.specs.Answer.{answerOf, filledBy, patternAnswer, patternAfter}
 use Rattle.pattern.specs.Refused.{Readable, LinesPass, Refused, short, size, line, nothing, next}
+use Rattle.pattern.specs.Promise.{Promise, refused as refused-so, accepted as accepted-so}
 
 -- ---- no line is refused with 0
 
@@ -62,6 +63,20 @@ next-numbered rows k n r = go (strays rows r) (ambiguous r)
     go true b = λ z. absurd (omega arith)
     go false true = λ z. absurd (omega arith)
     go false false = tt
+
+-- ---- 15 and 16 change nothing that is known
+
+next-known : (rows : List Row) (k t : Known) (n : ℕ) (r : Row) → judgeNext rows k n r ≡ passed t → k ≡ t
+next-known rows k t n r e = go (strays rows r) (ambiguous r) e
+  where
+    go : (a b : Bool) → cond a (refused 15) (cond b (refused 16) (passed k)) ≡ passed t → k ≡ t
+    go true b q = let z : _≡_ {A = ℕ} 0 1 = cc in absurd (omega arith)
+    go false true q = let z : _≡_ {A = ℕ} 0 1 = cc in absurd (omega arith)
+    go false false q = cc
+
+nexts-known : (rows : List Row) {k t : Known} {n : ℕ} {ls : List Row} → AllPass (judgeNext rows) k n ls t → k ≡ t
+nexts-known rows done = refl
+nexts-known rows (next-line {s = k} {t = u} {n = n} {l = r} e rest) = next-known rows k u n r e ∙ nexts-known rows rest
 
 -- ---- the answer and the room, by the host's test and by what the text says
 
@@ -145,39 +160,51 @@ module _ (text buffer : List ℕ) where
   numbers number at (nothing k r p e) z = absurd (omega arith)
   numbers number at (next k r p n b) z = bad-number (judgeNext (k .rows)) (next-numbered (k .rows)) b z
 
+  none : patternAnswer text buffer .number ≡ 0 → (number at : ℕ) → Refused text buffer number at → ⊥
+  none z number at r = numbers number at r (sym (ap (λ (a : Answer). a .number) (answers number at r)) ∙ z)
+
+  abbrev Promised : Type 0
+  Promised = Promise text buffer (patternAnswer text buffer) (patternAfter text buffer)
+
   -- A call is refused by one of the list's entries, or it is accepted.
-  data Answered : Type 0 where
-    refused-so : (number at : ℕ) → Refused text buffer number at → Answered
-    accepted-so : patternAnswer text buffer .number ≡ 0 → Answered
-
-  answered : Answered
-  answered = host (ltb (length buffer) bufferLength) refl (badSize mostText text) refl
+  pub pattern-promise : Promise text buffer (patternAnswer text buffer) (patternAfter text buffer)
+  pattern-promise = host (ltb (length buffer) bufferLength) refl (badSize mostText text) refl
     where
-      next-sets : Readable text buffer → (k : Known) → lines ≡ accepted k → (length (k .rows) ≡ 0 → ⊥) → (o : Outcome Known) → nexts k ≡ o → Answered
-      next-sets r k w n (faulty number at) x = refused-so number at (next k r (walk-all k .0 w) n (walk-next k number at .0 x))
-      next-sets r k w n (accepted t) x =
-          accepted-so (ap (λ (a : Answer). a .number) (long-answer (r .long) ∙ ap answerOf (next-said (r .sized) k w n (accepted t) x)))
+      refuse : (number at : ℕ) → Refused text buffer number at → Promised
+      refuse number at r = refused-so number at r (answers number at r) (refused-keeps number at r)
 
-      rows : Readable text buffer → (k : Known) → lines ≡ accepted k → (b : Bool) → eqb (length (k .rows)) 0 ≡ b → Answered
-      rows r k w true z = refused-so 13 1 (nothing k r (walk-all k .0 w) (eqb-true (length (k .rows)) 0 z))
+      accept : bufferLength ≤ length buffer → (k : Known) → LinesPass text k → patternText text ≡ accepted k → Promised
+      accept long k p e =
+          let counts = long-answer long ∙ ap answerOf e in
+          accepted-so (none (ap (λ (a : Answer). a .number) counts))
+          (record { known = k; lines = p; counts = counts; fills = long-after long ∙ ap (λ (o : Outcome Known). filledBy o buffer) e })
+
+      next-sets : Readable text buffer → (k : Known) → lines ≡ accepted k → (length (k .rows) ≡ 0 → ⊥) → (o : Outcome Known) → nexts k ≡ o → Promised
+      next-sets r k w n (faulty number at) x = refuse number at (next k r (walk-all k .0 w) n (walk-next k number at .0 x))
+      next-sets r k w n (accepted t) x =
+          let same = nexts-known (k .rows) (walk-accepts (judgeNext (k .rows)) k t 2 (k .rows) .0 x) in
+          accept (r .long) k (walk-all k .0 w) (next-said (r .sized) k w n (accepted t) x ∙ ap accepted (sym same))
+
+      rows : Readable text buffer → (k : Known) → lines ≡ accepted k → (b : Bool) → eqb (length (k .rows)) 0 ≡ b → Promised
+      rows r k w true z = refuse 13 1 (nothing k r (walk-all k .0 w) (eqb-true (length (k .rows)) 0 z))
       rows r k w false z = next-sets r k w (eqb-false (length (k .rows)) 0 z) (nexts k) refl
 
-      walks : Readable text buffer → (o : Outcome Known) → lines ≡ o → Answered
-      walks r (faulty number at) w = refused-so number at (line r (walk-line number at .0 w))
+      walks : Readable text buffer → (o : Outcome Known) → lines ≡ o → Promised
+      walks r (faulty number at) w = refuse number at (line r (walk-line number at .0 w))
       walks r (accepted k) w = rows r k w (eqb (length (k .rows)) 0) refl
 
-      host : (a : Bool) → ltb (length buffer) bufferLength ≡ a → (b : Bool) → badSize mostText text ≡ b → Answered
-      host true x b y = refused-so 2 0 (short (ltb-true (length buffer) bufferLength x))
-      host false x true y = refused-so 10 0 (size (ltb-false (length buffer) bufferLength x) (true-yes (badSize mostText text) y))
+      host : (a : Bool) → ltb (length buffer) bufferLength ≡ a → (b : Bool) → badSize mostText text ≡ b → Promised
+      host true x b y = refuse 2 0 (short (ltb-true (length buffer) bufferLength x))
+      host false x true y = refuse 10 0 (size (ltb-false (length buffer) bufferLength x) (true-yes (badSize mostText text) y))
       host false x false y = walks (record { long = ltb-false (length buffer) bufferLength x; sized = false-no (badSize mostText text) y }) lines refl
 
   refused-by : (number at : ℕ) → patternAnswer text buffer ≡ refusedAt number at → (number ≡ 0 → ⊥) → Refused text buffer number at
-  refused-by number at e n = go answered
+  refused-by number at e n = go pattern-promise
     where
-      go : Answered → Refused text buffer number at
-      go (accepted-so z) = absurd (n (sym (ap (λ (a : Answer). a .number) e) ∙ z))
-      go (refused-so m i r) =
-          let q : refusedAt m i ≡ refusedAt number at = sym (answers m i r) ∙ e in
+      go : Promised → Refused text buffer number at
+      go (accepted-so f a) = absurd (n (ap (λ (x : Answer). x .number) (sym e ∙ a .counts)))
+      go (refused-so m i r f k) =
+          let q : refusedAt m i ≡ refusedAt number at = sym f ∙ e in
           subst (λ (x : ℕ). Refused text buffer x at) (ap (λ (a : Answer). a .number) q)
           (subst (λ (y : ℕ). Refused text buffer m y) (ap (λ (a : Answer). a .line) q) r)
 
@@ -187,8 +214,8 @@ module _ (text buffer : List ℕ) where
 
   -- A call is accepted just where no refusal applies.
   pub pattern-accepted : patternAnswer text buffer .number ≡ 0 ↔ ((number at : ℕ) → Refused text buffer number at → ⊥)
-  pattern-accepted = (λ z number at r. numbers number at r (sym (ap (λ (a : Answer). a .number) (answers number at r)) ∙ z), λ f. go f answered)
+  pattern-accepted = (none, λ f. go f pattern-promise)
     where
-      go : ((number at : ℕ) → Refused text buffer number at → ⊥) → Answered → patternAnswer text buffer .number ≡ 0
-      go f (accepted-so z) = z
-      go f (refused-so m i r) = absurd (f m i r)
+      go : ((number at : ℕ) → Refused text buffer number at → ⊥) → Promised → patternAnswer text buffer .number ≡ 0
+      go f (accepted-so g a) = ap (λ (x : Answer). x .number) (a .counts)
+      go f (refused-so m i r e k) = absurd (f m i r)
