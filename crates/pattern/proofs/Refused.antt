@@ -1,4 +1,5 @@
--- The pattern reader refuses with a number and a line just where document 01's list gives them, and a refused call leaves the room as it was.
+-- What a call of the pattern reader promises (`pattern-promise`); and that it refuses with a number and a line just where document 01's list gives them
+-- (`pattern-refused`), leaves the room as it was then, and accepts just where no entry applies.
 -- Assumes nothing.
 use Prim.Native.Nat.{ℕ, _≤_, _<_}
 use mathlib.Core.Path.{_≡_, refl, sym, ap, _∙_, subst}
