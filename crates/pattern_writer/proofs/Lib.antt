@@ -1,0 +1,4 @@
+pub mod HeaderLaws
+pub mod WriteLaws
+pub mod ReadBack
+pub mod Cases

@@ -1,0 +1,3 @@
+pub mod Writer
+pub mod Tested
+pub mod ReadBack
