@@ -18,9 +18,9 @@ use Rattle.log_line.specs.Limits.{bufferLength, mostLabels}
 use Rattle.log_buffer.specs.Valid.{isLog}
 use Rattle.log_texts.specs.Spelled.{textOf}
 use Rattle.writing.specs.Put.{Put}
-use Rattle.log_writer.specs.Tested.{Tested}
+use Rattle.log_lines.specs.Tested.{Tested}
 use Rattle.log_writer.specs.Writer.{logWritten, fitFaults, writeFaults, writeAnswer, textAfter, fitAnswer, fitAfter}
-use Rattle.log_writer.proofs.TextLaws.{text-fits}
+use Rattle.log_lines.proofs.TextLaws.{text-fits}
 
 pub now-tested : (log : List ℕ) (labels : ℕ) (b : Bool) → b ≡ isLog labels log → b ≡ true → labels ≤ 16 → Tested log
 now-tested log labels b e f h = record { count = labels; fit = h; is-log = true-yes (isLog labels log) (sym e ∙ f) }

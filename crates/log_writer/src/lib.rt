@@ -1,39 +1,12 @@
 // Writes a log buffer back as a text.
-mod lines;
-
 use answer::Answer;
-use lines::put_header;
-use lines::put_step;
+use log_lines::lay_log;
 ghost use Prim.Native.Nat.{_≤_};
 ghost use mathlib.Core.Path.{_≡_};
 ghost use lib.ListN.{length};
-ghost use Rattle.log_texts.specs.Spelled.{stepsOf, stepLines, textOf};
-ghost use Rattle.writing.specs.Put.{Put};
-ghost use Rattle.log_writer.specs.Tested.{Tested};
+ghost use Rattle.log_texts.specs.Spelled.{textOf};
+ghost use Rattle.log_lines.specs.Tested.{Tested};
 ghost use Rattle.log_writer.specs.Writer.{writeAnswer, textAfter, fitAnswer, fitAfter};
-
-// The lines of all steps.
-fn put_steps(out: &mut [u8], at: usize, log: &[u16]) -> usize
-    requires { ⌜ Tested (now log) ⌝ }
-    requires { ⌜ at ≤ 26 ⌝ }
-    ensures { λ r. ⌜ Put (stepLines 0 (stepsOf (now (log .entry)))) at (now (out .entry)) r (now (out .exit)) ⌝ }
-{
-    let steps = log[0];
-    let mut next = at;
-    for step in 0..steps {
-        next = put_step(out, next, step, log);
-    }
-    next
-}
-
-// The whole text, at the front of a buffer as far as there are places. Answers how long it is.
-fn lay_log(out: &mut [u8], log: &[u16]) -> usize
-    requires { ⌜ Tested (now log) ⌝ }
-    ensures { λ r. ⌜ Put (textOf (now (log .entry))) 0 (now (out .entry)) r (now (out .exit)) ⌝ }
-{
-    let next = put_header(out, 0);
-    put_steps(out, next, log)
-}
 
 // How long the text is: laid out over no places.
 fn measure(log: &[u16]) -> usize

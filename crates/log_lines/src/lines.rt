@@ -14,7 +14,7 @@ ghost use Rattle.log_line.specs.Step.{Step};
 ghost use Rattle.log_buffer.specs.Meaning.{stepsIn};
 ghost use Rattle.log_texts.specs.Spelled.{stepIn, fieldsOf, headerLine};
 ghost use Rattle.writing.specs.Put.{Put};
-ghost use Rattle.log_writer.specs.Tested.{Tested};
+ghost use Rattle.log_lines.specs.Tested.{Tested};
 
 pub fn put_header(out: &mut [u8], at: usize) -> usize
     requires { ⌜ at + 26 < 2 ^ 64 ⌝ }

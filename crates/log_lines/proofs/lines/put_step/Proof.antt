@@ -1,11 +1,11 @@
-use Rattle.log_writer.proofs.LineLaws.{step-kit}
+use Rattle.log_lines.proofs.LineLaws.{step-kit}
 use borrow.Author.Needs.{needs}
-use Rattle.log_writer.proofs.lines.put_step.Statement.{statement}
-use Rattle.log_writer.proofs.lines.put_step.Tie as tie
-use Rattle.log_writer.proofs.lines.put_step.Reads as reads
-use Rattle.log_writer.proofs.lines.put_step.Lts as lts
+use Rattle.log_lines.proofs.lines.put_step.Statement.{statement}
+use Rattle.log_lines.proofs.lines.put_step.Tie as tie
+use Rattle.log_lines.proofs.lines.put_step.Reads as reads
+use Rattle.log_lines.proofs.lines.put_step.Lts as lts
 use Rattle.log_buffer.proofs.number_at.Reads as number-at-reads
-use Rattle.log_writer.proofs.lines.put_line.Reads as put-line-reads
+use Rattle.log_lines.proofs.lines.put_line.Reads as put-line-reads
 
 add-number-at : tie.Need-add-number-at
 add-number-at c = search needs

@@ -1,9 +1,9 @@
-use Rattle.log_writer.proofs.LineLaws.{preds-kit}
+use Rattle.log_lines.proofs.LineLaws.{preds-kit}
 use borrow.Author.Needs.{needs}
-use Rattle.log_writer.proofs.lines.put_preds.Statement.{statement}
-use Rattle.log_writer.proofs.lines.put_preds.Tie as tie
-use Rattle.log_writer.proofs.lines.put_preds.Reads as reads
-use Rattle.log_writer.proofs.lines.put_preds.Lts as lts
+use Rattle.log_lines.proofs.lines.put_preds.Statement.{statement}
+use Rattle.log_lines.proofs.lines.put_preds.Tie as tie
+use Rattle.log_lines.proofs.lines.put_preds.Reads as reads
+use Rattle.log_lines.proofs.lines.put_preds.Lts as lts
 use Rattle.writing.proofs.put_byte.Reads as put-byte-reads
 use Rattle.writing.proofs.put_listed.Reads as put-listed-reads
 use Rattle.writing.proofs.put_number.Reads as put-number-reads

@@ -15,7 +15,7 @@ use Rattle.log_buffer.proofs.Sound.{Sound, sound-iff, begin-next, begin-inside}
 use Rattle.log_texts.specs.Spelled.{stepIn, fieldsOf, headerLine}
 use Rattle.writing.specs.Put.{Put, listed}
 use Rattle.writing.proofs.PutLaws.{then, joined-listed}
-use Rattle.log_writer.specs.Tested.{Tested}
+use Rattle.log_lines.specs.Tested.{Tested}
 
 -- ---- links
 

@@ -1,11 +1,11 @@
-use Rattle.log_writer.proofs.TextLaws.{text-kit}
+use Rattle.log_lines.proofs.TextLaws.{text-kit}
 use borrow.Author.Needs.{needs}
-use Rattle.log_writer.proofs.lay_log.Statement.{statement}
-use Rattle.log_writer.proofs.lay_log.Tie as tie
-use Rattle.log_writer.proofs.lay_log.Reads as reads
-use Rattle.log_writer.proofs.lay_log.Lts as lts
-use Rattle.log_writer.proofs.lines.put_header.Reads as put-header-reads
-use Rattle.log_writer.proofs.put_steps.Reads as put-steps-reads
+use Rattle.log_lines.proofs.lay_log.Statement.{statement}
+use Rattle.log_lines.proofs.lay_log.Tie as tie
+use Rattle.log_lines.proofs.lay_log.Reads as reads
+use Rattle.log_lines.proofs.lay_log.Lts as lts
+use Rattle.log_lines.proofs.lines.put_header.Reads as put-header-reads
+use Rattle.log_lines.proofs.put_steps.Reads as put-steps-reads
 
 put-header-requires : tie.Need-put-header-requires
 put-header-requires c κs = search needs

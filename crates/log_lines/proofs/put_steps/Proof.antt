@@ -4,13 +4,13 @@ use Rattle.writing.specs.Put.{Put}
 use mathlib.Core.Path.{_≡_}
 use Prim.Native.Nat.{_+_, _*_, _≤_, _-_}
 use lib.ListN.{length}
-use Rattle.log_writer.proofs.TextLaws.{steps-kit, step-below, step-room}
+use Rattle.log_lines.proofs.TextLaws.{steps-kit, step-below, step-room}
 use borrow.Author.Needs.{needs}
-use Rattle.log_writer.proofs.put_steps.Statement.{statement}
-use Rattle.log_writer.proofs.put_steps.Tie as tie
-use Rattle.log_writer.proofs.put_steps.Reads as reads
-use Rattle.log_writer.proofs.put_steps.Lts as lts
-use Rattle.log_writer.proofs.lines.put_step.Reads as put-step-reads
+use Rattle.log_lines.proofs.put_steps.Statement.{statement}
+use Rattle.log_lines.proofs.put_steps.Tie as tie
+use Rattle.log_lines.proofs.put_steps.Reads as reads
+use Rattle.log_lines.proofs.put_steps.Lts as lts
+use Rattle.log_lines.proofs.lines.put_step.Reads as put-step-reads
 
 abbrev Inv-loop : tie.InvT-loop
 Inv-loop out₀ at log steps next₀ step₀ out next step = (step ≤ steps) × (steps ≡ stepsIn log) × (next ≤ at + 67 * step) × (length out ≡ length out₀) × Put (stepLines 0 (stepsUpTo log step)) at out₀ next out

@@ -21,8 +21,8 @@ use Rattle.log_texts.proofs.LogBuffers.{text-says}
 use Rattle.log_texts.proofs.LogText.{known}
 use Rattle.writing.specs.Put.{Put}
 use Rattle.writing.proofs.PutLaws.{nothing-put, then}
-use Rattle.log_writer.specs.Tested.{Tested}
-use Rattle.log_writer.proofs.LineLaws.{some-long, step-fits}
+use Rattle.log_lines.specs.Tested.{Tested}
+use Rattle.log_lines.proofs.LineLaws.{some-long, step-fits}
 
 -- ---- the lines
 

@@ -1,9 +1,9 @@
-use Rattle.log_writer.proofs.LineLaws.{line-kit}
+use Rattle.log_lines.proofs.LineLaws.{line-kit}
 use borrow.Author.Needs.{needs}
-use Rattle.log_writer.proofs.lines.put_header.Statement.{statement}
-use Rattle.log_writer.proofs.lines.put_header.Tie as tie
-use Rattle.log_writer.proofs.lines.put_header.Reads as reads
-use Rattle.log_writer.proofs.lines.put_header.Lts as lts
+use Rattle.log_lines.proofs.lines.put_header.Statement.{statement}
+use Rattle.log_lines.proofs.lines.put_header.Tie as tie
+use Rattle.log_lines.proofs.lines.put_header.Reads as reads
+use Rattle.log_lines.proofs.lines.put_header.Lts as lts
 use Rattle.writing.proofs.put_bytes.Reads as put-bytes-reads
 
 slice-aggregate-put-bytes : tie.Need-slice-aggregate-put-bytes

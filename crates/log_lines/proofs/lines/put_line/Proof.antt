@@ -1,10 +1,10 @@
-use Rattle.log_writer.proofs.LineLaws.{line-kit}
+use Rattle.log_lines.proofs.LineLaws.{line-kit}
 use borrow.Author.Needs.{needs}
-use Rattle.log_writer.proofs.lines.put_line.Statement.{statement}
-use Rattle.log_writer.proofs.lines.put_line.Tie as tie
-use Rattle.log_writer.proofs.lines.put_line.Reads as reads
-use Rattle.log_writer.proofs.lines.put_line.Lts as lts
-use Rattle.log_writer.proofs.lines.put_preds.Reads as put-preds-reads
+use Rattle.log_lines.proofs.lines.put_line.Statement.{statement}
+use Rattle.log_lines.proofs.lines.put_line.Tie as tie
+use Rattle.log_lines.proofs.lines.put_line.Reads as reads
+use Rattle.log_lines.proofs.lines.put_line.Lts as lts
+use Rattle.log_lines.proofs.lines.put_preds.Reads as put-preds-reads
 use Rattle.writing.proofs.put_byte.Reads as put-byte-reads
 use Rattle.writing.proofs.put_ended.Reads as put-ended-reads
 
