@@ -1,7 +1,7 @@
 -- A line of a log's text, put together from what the single calls write; and where a step's numbers stand.
 -- Assumes nothing.
 use Prim.Native.Nat.{ℕ, _+_, _-_, _*_, _^_, _≤_, _<_}
-use mathlib.Core.Path.{_≡_, refl, sym, ap, ap₂, _∙_, subst}
+use mathlib.Core.Path.{_≡_, refl, ap, ap₂, _∙_, subst}
 use mathlib.Core.List.{List, [], _∷_, _++_, append-assoc}
 use native.Mathlib.Omega.{arith}
 use lib.ListN.{length, getD, take, drop, length-take}
@@ -9,7 +9,6 @@ use lib.Seq.{take-all}
 use Rattle.text.specs.Split.{joined, lineFrom}
 use Rattle.numbers.specs.Numbers.{spell}
 use Rattle.numbers.specs.Listed.{listWord}
-use Rattle.log_line.specs.Step.{Step}
 use Rattle.log_buffer.specs.Meaning.{at, stepsIn}
 use Rattle.log_buffer.proofs.Sound.{Sound, sound-iff, begin-next, begin-inside}
 use Rattle.log_texts.specs.Spelled.{stepIn, fieldsOf, headerLine}

@@ -1,24 +1,16 @@
--- The lines of the steps, one after the other, and the whole text; how long it is.
+-- The lines of the steps, one after the other, and the whole text.
 -- Assumes nothing.
-use Prim.Native.Nat.{ℕ, zero, suc, _+_, _*_, _^_, _≤_, _<_}
-use mathlib.Core.Path.{_≡_, refl, sym, ap, ap₂, _∙_, subst}
-use mathlib.Core.Bool.{Bool, true, false, cond, _||_}
+use Prim.Native.Nat.{ℕ, suc, _+_, _*_, _^_, _≤_, _<_}
+use mathlib.Core.Path.{_≡_, sym, ap, _∙_}
 use mathlib.Core.List.{List, [], _∷_, _++_, append-assoc, append-nil}
 use native.Mathlib.Numerals.{add-one}
 use native.Mathlib.Omega.{arith}
-use borrow.Author.Tests.{ltb-false}
-use lib.Dec.{eqb, ltb}
-use lib.ListN.{length, getD, length-append}
+use lib.ListN.{length}
 use Rattle.text.specs.Split.{joined, lineFrom}
-use Rattle.text.specs.Lines.{linesOf}
-use Rattle.text.specs.Walk.{Outcome, accepted, faulty, walk}
-use Rattle.log_line.specs.Limits.{mostText}
 use Rattle.log_line.specs.Step.{Step}
-use Rattle.log_line.specs.Format.{Known, conclude, logFormat, logText}
 use Rattle.log_buffer.specs.Meaning.{stepsIn}
 use Rattle.log_texts.specs.Spelled.{stepIn, stepsUpTo, stepsOf, fieldsOf, stepLines, headerLine, textOf}
-use Rattle.log_texts.proofs.LogBuffers.{text-says}
-use Rattle.log_texts.proofs.LogText.{known}
+use Rattle.log_texts.proofs.StepPlaces.{length-upTo}
 use Rattle.writing.specs.Put.{Put}
 use Rattle.writing.proofs.PutLaws.{nothing-put, then}
 use Rattle.log_lines.specs.Tested.{Tested}
@@ -35,11 +27,6 @@ lines-snoc v (y ∷ xs) x =
     let e : suc v + length xs ≡ v + suc (length xs) = omega arith in
     ap (λ (t : List ℕ). lineFrom (fieldsOf v y) ++ t) (lines-snoc (suc v) xs x ∙ ap (λ (w : ℕ). stepLines (suc v) xs ++ lineFrom (fieldsOf w x)) e)
     ∙ sym (append-assoc (lineFrom (fieldsOf v y)) (stepLines (suc v) xs) (lineFrom (fieldsOf (v + suc (length xs)) x)))
-
-length-upTo : (b : List ℕ) (n : ℕ) → length (stepsUpTo b n) ≡ n
-unfolding stepsUpTo
-length-upTo b zero = refl
-length-upTo b (suc n) = let e = length-upTo b n in let f = length-append (stepsUpTo b n) (stepIn b n ∷ []) in omega arith
 
 pub no-steps : (l log : List ℕ) (from : ℕ) → Put (stepLines 0 (stepsUpTo log 0)) from l from l
 unfolding stepLines stepsUpTo
@@ -83,19 +70,3 @@ pub text-measured : (l new text : List ℕ) (r : ℕ) → Put text 0 l r new →
 text-measured l new text r a = omega (arith, a .next)
 
 pub ruleset text-kit = (header-next, text-put, text-measured)
-
--- ---- its length
-
--- An accepted text is no longer than the format allows.
-accepted-fits : (count : ℕ) (text : List ℕ) (k : Known) → logText count text ≡ accepted k → length text ≤ mostText
-accepted-fits count text k e = go (eqb (length text) 0) (ltb mostText (length text)) refl e
-  where
-    go : (a b : Bool) → ltb mostText (length text) ≡ b
-        → conclude (cond (a || b) (faulty 20 0) (walk (logFormat count .judge) (logFormat count .start) 1 (linesOf text))) ≡ accepted k
-        → length text ≤ mostText
-    go true b p f = let z : _≡_ {A = ℕ} 0 1 = cc in absurd (omega arith)
-    go false true p f = let z : _≡_ {A = ℕ} 0 1 = cc in absurd (omega arith)
-    go false false p f = ltb-false mostText (length text) p
-
-pub text-fits : (log : List ℕ) → Tested log → length (textOf log) ≤ mostText
-text-fits log t = accepted-fits (t .count) (textOf log) (known (stepsOf log)) (text-says (t .count) log (t .fit) (t .is-log))

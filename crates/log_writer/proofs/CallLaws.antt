@@ -1,7 +1,7 @@
 -- The call behind tests 1 and 5: tests 7 and 8, and the text, on the documented length.
 -- Assumes nothing.
-use Prim.Native.Nat.{ℕ, _+_, _%_, _≤_, _<_}
-use mathlib.Core.Path.{_≡_, refl, sym, ap, _∙_}
+use Prim.Native.Nat.{ℕ, _+_, _≤_, _<_}
+use mathlib.Core.Path.{_≡_, sym, ap, _∙_}
 use mathlib.Core.Bool.{Bool, true}
 use mathlib.Core.Option.{Option}
 use mathlib.Core.List.{List, _++_}
@@ -20,7 +20,7 @@ use Rattle.log_texts.specs.Spelled.{textOf}
 use Rattle.writing.specs.Put.{Put}
 use Rattle.log_lines.specs.Tested.{Tested}
 use Rattle.log_writer.specs.Writer.{logWritten, fitFaults, writeFaults, writeAnswer, textAfter, fitAnswer, fitAfter}
-use Rattle.log_lines.proofs.TextLaws.{text-fits}
+use Rattle.log_writer.proofs.Fits.{text-fits}
 
 pub now-tested : (log : List ℕ) (labels : ℕ) (b : Bool) → b ≡ isLog labels log → b ≡ true → labels ≤ 16 → Tested log
 now-tested log labels b e f h = record { count = labels; fit = h; is-log = true-yes (isLog labels log) (sym e ∙ f) }
