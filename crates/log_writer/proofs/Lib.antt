@@ -1,3 +1,4 @@
 pub mod Fits
 pub mod CallLaws
 pub mod ReadBack
+pub mod Cases
