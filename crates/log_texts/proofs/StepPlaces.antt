@@ -174,7 +174,7 @@ module _ (count : ℕ) (b : List ℕ) (xs : List Step) (long : bufferLength ≤ 
 
 -- ---- from the places to the steps
 
-length-upTo : (b : List ℕ) (n : ℕ) → length (stepsUpTo b n) ≡ n
+pub length-upTo : (b : List ℕ) (n : ℕ) → length (stepsUpTo b n) ≡ n
 unfolding stepsUpTo
 length-upTo b zero = refl
 length-upTo b (suc n) = let e = length-upTo b n in let f = length-append (stepsUpTo b n) (stepIn b n ∷ []) in omega arith

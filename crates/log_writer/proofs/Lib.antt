@@ -1,0 +1,4 @@
+pub mod Fits
+pub mod CallLaws
+pub mod ReadBack
+pub mod Cases
