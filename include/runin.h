@@ -1,10 +1,12 @@
-/* The run-in log judge, for C: three calls on numbers and lent buffers.
+/* The run-in log judge, for C: five calls on numbers and lent buffers.
  *
  * Link librunin.a (`rt staticlib runin` writes target/staticlib/librunin.a). Every call ends, tests what it is lent, allocates nothing,
  * keeps nothing between calls and uses less than 64 KiB of stack. Lengths count elements, not bytes.
  *
  * What no contract covers: each pointer is valid for its length and aligned for its type, also where the length is 0 (use the address
  * of any object then, not NULL), and the buffers of one call do not overlap.
+ *
+ * A label count is a uint16_t. C cuts a larger int before the call, so that the call can't see it: 65,537 arrives as 1. Test it first.
  */
 #ifndef RUNIN_H
 #define RUNIN_H
@@ -16,7 +18,8 @@
 extern "C" {
 #endif
 
-/* Lengths of the lent buffers, in u16. A longer buffer is fine: what lies past these lengths is neither read nor written. */
+/* Lengths of the lent buffers, in u16. A longer buffer is fine: what lies past these lengths is neither read nor written. The text buffer that
+ * a text is written into has bytes, and is long enough if it holds the text. */
 #define RUNIN_LOG_LENGTH 7170u
 #define RUNIN_PATTERN_LENGTH 2074u
 #define RUNIN_RESULT_LENGTH 10240u
@@ -26,7 +29,7 @@ extern "C" {
 #define RUNIN_ROW_LENGTH 10u
 
 /* An answer is number, line, count in one u64. Number 0 is accepted; any other is a refusal. A refusal has count 0, line 0 except where a
- * line of a text is at fault, and leaves every lent buffer as it was. */
+ * line of a text is at fault, and leaves every lent buffer as it was. Each of the three is below 65,536. */
 #define RUNIN_NUMBER(answer) ((uint32_t)((answer) >> 32))
 #define RUNIN_LINE(answer) ((uint32_t)(((answer) >> 16) & 0xffffu))
 #define RUNIN_COUNT(answer) ((uint32_t)((answer) & 0xffffu))
@@ -38,12 +41,13 @@ extern "C" {
 #define RUNIN_WORK_SHORT 4     /* work buffer shorter than RUNIN_WORK_LENGTH */
 #define RUNIN_LABEL_COUNT 5    /* label count not 1 to 16 */
 #define RUNIN_NO_PATTERN 6     /* pattern buffer not what an accepted text gives */
-#define RUNIN_NO_LOG 7         /* log buffer not what an accepted text gives, with the pattern's label count */
+#define RUNIN_NO_LOG 7         /* log buffer not what an accepted text gives, with the pattern's label count or the one handed in */
+#define RUNIN_TEXT_SHORT 8     /* text buffer shorter than the text to be written */
 
-/* The pattern's writer is at fault. */
+/* Whoever wrote the pattern or the header text is at fault. */
 #define RUNIN_PATTERN_SIZE 10  /* text empty or over 16,384 bytes */
 #define RUNIN_PATTERN_LINE 11  /* line too long, newline missing, byte outside 32 to 126; number of fields; a field that is no number */
-#define RUNIN_PATTERN_HEADER 12
+#define RUNIN_PATTERN_HEADER 12 /* header differs; in runin_write_pattern anything wrong with the header text, always line 1 */
 #define RUNIN_PATTERN_ORDER 13 /* bead or state out of order or over its limit, final over 1, nothing after the header */
 #define RUNIN_PATTERN_RULE 14  /* rule not SOME or ALL, changed inside a bead, or the same as the bead before */
 #define RUNIN_NEXT_STATE 15    /* next set with a state that the bead lacks */
@@ -72,6 +76,24 @@ uint64_t runin_read_log(const uint8_t *text, size_t text_len, uint16_t label_cou
  * other buffers may hold anything before the call. Refusals: 1, 2, 3, 4, 6, 7. */
 uint64_t runin_judge(const uint16_t *pattern, size_t pattern_len, const uint16_t *log, size_t log_len,
                      uint16_t *result, size_t result_len, uint16_t *work, size_t work_len);
+
+/* Writes a pattern's text from the pattern buffer. The header text, newline included, opens the output as it is. Below it stands a line for
+ * each bead and state, beads from 1 and states from 0 upwards: bead, SOME or ALL, state, final 0 or 1, then the next set of each label, parted
+ * by one space. Accepted: the count is the length of the output in bytes; the text buffer begins with the output, and its bytes after it are
+ * left alone. runin_read_pattern accepts the output and gives back the same RUNIN_PATTERN_LENGTH numbers. A text buffer of 16,384 bytes
+ * is always long enough. The pattern buffer and the header text are only read. Refusals, the first that applies: 2, 6, 12, 8.
+ *
+ * 12, line 1, is for everything wrong with the header text, never 10 or 11. It has to be one line, its only newline last, that
+ * runin_read_pattern would accept as a header, with as many labels as pattern[0] says. */
+uint64_t runin_write_pattern(const uint16_t *pattern, size_t pattern_len, const uint8_t *header, size_t header_len,
+                             uint8_t *text, size_t text_len);
+
+/* Writes a log's text from the log buffer: vertex board labels preds, then a line a step with its columns in this order; preds is - or the
+ * links joined by commas. Accepted: the count is the length of the output in bytes; the text buffer begins with the output, and its bytes
+ * after it are left alone. runin_read_log with the same label count accepts the output and gives back the same RUNIN_LOG_LENGTH numbers. A
+ * text buffer of 65,535 bytes is always long enough. The log buffer is only read. The label count decides 5 and 7 and nothing else: the text
+ * does not depend on it. Refusals, the first that applies: 1, 5, 7, 8. */
+uint64_t runin_write_log(const uint16_t *log, size_t log_len, uint16_t label_count, uint8_t *text, size_t text_len);
 
 #ifdef __cplusplus
 }

@@ -4,7 +4,7 @@ use crate::judge::{self, RESULT_LENGTH, ROW_LENGTH, WORK_LENGTH};
 use crate::library;
 use crate::log::{self, Log};
 use crate::pattern::{self, Pattern};
-use crate::random::Random;
+use crate::random::{Element, Random};
 use crate::tally::Tally;
 use crate::text::{refuse, Refusal};
 
@@ -12,29 +12,29 @@ use crate::text::{refuse, Refusal};
 pub const LENGTHS: [usize; 4] = [log::LENGTH, pattern::LENGTH, RESULT_LENGTH, WORK_LENGTH];
 
 /// A buffer lent to the library, with noise on both sides: a write that misses it is seen, and so is one past its documented length.
-struct Lent {
-    all: Vec<u16>,
-    as_lent: Vec<u16>,
+struct Lent<T> {
+    all: Vec<T>,
+    as_lent: Vec<T>,
     length: usize,
 }
 
 const MARGIN: usize = 64;
 
-impl Lent {
+impl<T: Element> Lent<T> {
     /// A buffer of this length that starts with these numbers, or as many of them as it holds; all else is noise.
-    fn new(random: &mut Random, start: &[u16], length: usize) -> Lent {
+    fn new(random: &mut Random, start: &[T], length: usize) -> Lent<T> {
         let mut all = random.noise(MARGIN + length + MARGIN);
         let held = start.len().min(length);
         all[MARGIN..MARGIN + held].copy_from_slice(&start[..held]);
         Lent { as_lent: all.clone(), all, length }
     }
 
-    fn part(&mut self) -> &mut [u16] {
+    fn part(&mut self) -> &mut [T] {
         &mut self.all[MARGIN..MARGIN + self.length]
     }
 
     /// Whether the buffer starts with these numbers and all else is as it was.
-    fn became(&self, start: &[u16]) -> bool {
+    fn became(&self, start: &[T]) -> bool {
         let (before, after) = (MARGIN, MARGIN + start.len());
         self.all[..before] == self.as_lent[..before] && self.all[before..after] == *start && self.all[after..] == self.as_lent[after..]
     }
@@ -110,6 +110,92 @@ impl Comparison {
         self.settle("judge", expected, answer, kept, || format!("pattern {}, log {}", in_use(pattern), in_use(log)));
     }
 
+    /// Writes from a buffer of this length that starts with these numbers into a text buffer of that length. Gives the expected number.
+    pub fn write_pattern(&mut self, pattern: &[u16], length: usize, header: &[u8], text_length: usize) -> u16 {
+        let written = if length < pattern::LENGTH { refuse(2, 0) } else { pattern::write(pattern, header) };
+        let mut lent = Lent::new(&mut self.noise, pattern, length);
+        let mut lent_header = header.to_vec();
+        let mut text = Lent::new(&mut self.noise, &[], text_length);
+        let answer = library::write_pattern(lent.part(), &mut lent_header, text.part());
+        let given = Given { answer, only_read: lent.unchanged() && lent_header == header, text };
+        let read_back = |text: &mut [u8]| {
+            let mut again = vec![0; pattern::LENGTH];
+            library::read_pattern(text, &mut again) >> 32 == 0 && again == pattern[..pattern::LENGTH]
+        };
+        let input = || format!("pattern {}, header \"{}\", text buffer of {text_length}", in_use(pattern), header.escape_ascii());
+        self.settle_write("write_pattern", written, given, read_back, input)
+    }
+
+    /// The same for a log.
+    pub fn write_log(&mut self, log: &[u16], length: usize, label_count: u16, text_length: usize) -> u16 {
+        let written = if length < log::LENGTH {
+            refuse(1, 0)
+        } else if !(1..=16).contains(&label_count) {
+            refuse(5, 0)
+        } else {
+            log::write(log, label_count)
+        };
+        let mut lent = Lent::new(&mut self.noise, log, length);
+        let mut text = Lent::new(&mut self.noise, &[], text_length);
+        let answer = library::write_log(lent.part(), label_count, text.part());
+        let given = Given { answer, only_read: lent.unchanged(), text };
+        let read_back = |text: &mut [u8]| {
+            let mut again = vec![0; log::LENGTH];
+            library::read_log(text, label_count, &mut again) >> 32 == 0 && again == log[..log::LENGTH]
+        };
+        let input = || format!("log {}, {label_count} labels, text buffer of {text_length}", in_use(log));
+        self.settle_write("write_log", written, given, read_back, input)
+    }
+
+    /// Settles a write; `written` is the text whatever the text buffer's length. What was accepted is read back by the library.
+    fn settle_write(
+        &mut self,
+        call: &'static str,
+        written: Result<Vec<u8>, Refusal>,
+        given: Given,
+        read_back: impl Fn(&mut [u8]) -> bool,
+        input: impl Fn() -> String,
+    ) -> u16 {
+        let Given { answer, only_read, mut text } = given;
+        if let Ok(written) = &written {
+            self.tally.count_room(call, written.len(), text.length);
+        }
+        let expected = written.and_then(|written| if text.length < written.len() { refuse(8, 0) } else { Ok(written) });
+        let kept = only_read && text.became(expected.as_deref().unwrap_or(&[]));
+        let number = expected.as_ref().map_or_else(|refusal| refusal.number, |_| 0);
+        self.settle(call, expected.as_ref().map(Vec::len).map_err(|&refusal| refusal), answer, kept, &input);
+        if let Ok(written) = expected {
+            if read_back(&mut text.part()[..written.len()]) {
+                self.tally.count_read_back(call);
+            } else {
+                self.differs(|| println!("DIFFERENCE in {call}: what was written does not read back; {}", input()));
+            }
+        }
+        number
+    }
+
+    /// The number that the papers ask for against the one that the reference gives.
+    pub fn must_be(&mut self, number: u16, given: u16, what: &str) {
+        if number != given {
+            self.differs(|| println!("DIFFERENCE in the reference: {number} expected, {given} given: {what}"));
+        }
+    }
+
+    /// What the papers ask for, of the reference.
+    pub fn must_hold(&mut self, holds: bool, what: &str) {
+        if !holds {
+            self.differs(|| println!("DIFFERENCE in the reference: {what}"));
+        }
+    }
+
+    /// Counts a difference. The first few are enough to look into.
+    fn differs(&mut self, print: impl Fn()) {
+        self.tally.differences += 1;
+        if self.tally.differences <= 5 {
+            print();
+        }
+    }
+
     fn settle(&mut self, call: &'static str, expected: Result<usize, Refusal>, answer: u64, kept: bool, input: impl Fn() -> String) {
         let (number, line, count) = match expected {
             Ok(count) => (0, 0, count),
@@ -117,15 +203,20 @@ impl Comparison {
         };
         self.tally.count_answer(call, number);
         if answer != (u64::from(number) << 32) + ((line as u64) << 16) + count as u64 || !kept {
-            self.tally.differences += 1;
-            // The first few are enough to look into.
-            if self.tally.differences <= 5 {
+            self.differs(|| {
                 let (n, l, c) = (answer >> 32, answer >> 16 & 0xffff, answer & 0xffff);
                 println!("DIFFERENCE in {call}: {number} line {line} count {count} expected, {n} line {l} count {c} given");
                 println!("  buffers as expected: {kept}; {}", input());
-            }
+            });
         }
     }
+}
+
+/// What a call that writes gave: the answer, whether what it only reads is as it was, and the text buffer.
+struct Given {
+    answer: u64,
+    only_read: bool,
+    text: Lent<u8>,
 }
 
 /// What an accepted judging leaves, and what of it is counted.

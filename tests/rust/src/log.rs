@@ -8,6 +8,8 @@ pub const MOST_STEPS: usize = 1_024;
 pub const MOST_LINKS: usize = 4_096;
 pub const MOST_LINKS_A_STEP: usize = 8;
 pub const NAMES: [&str; 4] = ["vertex", "board", "labels", "preds"];
+/// The order of the columns in which a log is written: that of the names.
+pub const WRITTEN: [usize; 4] = [0, 1, 2, 3];
 
 // Where the parts of the buffer begin; the step count is at 0.
 const LABELS: usize = 1;
@@ -48,6 +50,14 @@ pub fn read(text: &[u8], label_count: u16) -> Result<Log, Refusal> {
         }
     }
     Ok(log)
+}
+
+/// Writes the text of a buffer under a label count of 1 to 16, or gives the refusal: 7.
+pub fn write(buffer: &[u16], label_count: u16) -> Result<Vec<u8>, Refusal> {
+    match Log::of_buffer(buffer, label_count) {
+        Some(log) => Ok(log.text(WRITTEN)),
+        None => refuse(7, 0),
+    }
 }
 
 /// The column of each of the four names, or the number of the header's refusal.
@@ -139,7 +149,7 @@ impl Log {
             let links = buffer[LINKS..LENGTH].get(begin..end)?.to_vec();
             asked.steps.push(Step { board: buffer[BOARDS + v], labels: buffer[LABELS + v], links });
         }
-        let given = read(&asked.text([0, 1, 2, 3]), label_count).ok()?;
+        let given = read(&asked.text(WRITTEN), label_count).ok()?;
         (given.buffer() == buffer[..LENGTH]).then_some(given)
     }
 }

@@ -1,8 +1,9 @@
-//! Compares the library's three calls with a reference that shares no code with it. README.md says what is tried.
+//! Compares the library's five calls with a reference that shares no code with it. README.md says what is tried.
 
 mod compare;
 mod damage;
 mod generate;
+mod headers;
 mod judge;
 mod library;
 mod log;

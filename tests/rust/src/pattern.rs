@@ -75,6 +75,22 @@ fn label_count(line: &[u8]) -> Result<usize, u16> {
     good.then_some(names.len()).ok_or(12)
 }
 
+/// Writes the text of a buffer under a header text, or gives the refusal: 6, 12.
+pub fn write(buffer: &[u16], header: &[u8]) -> Result<Vec<u8>, Refusal> {
+    let Some(pattern) = Pattern::of_buffer(buffer) else {
+        return refuse(6, 0);
+    };
+    // One line, and that a header of an accepted text with as many labels.
+    match lines(header)[..] {
+        [line] if label_count(line) == Ok(pattern.labels) => Ok(pattern.text_under(header)),
+        _ => refuse(12, 1),
+    }
+}
+
+pub fn header(names: &[String]) -> Vec<u8> {
+    format!("bead rule state final {}\n", names.join(" ")).into_bytes()
+}
+
 /// Adds the state of one line below the header, or gives the number of its refusal.
 fn add_line(pattern: &mut Pattern, line: &[u8]) -> Result<(), u16> {
     let fields = fields(line).ok_or(11u16)?;
@@ -111,15 +127,20 @@ fn add_line(pattern: &mut Pattern, line: &[u8]) -> Result<(), u16> {
 impl Pattern {
     /// A text that gives this pattern, if one does; the names are the labels'.
     pub fn text(&self, names: &[String]) -> Vec<u8> {
-        let mut text = format!("bead rule state final {}\n", names.join(" "));
+        self.text_under(&header(names))
+    }
+
+    /// The header text as it is, then a line for each bead and state.
+    pub fn text_under(&self, header: &[u8]) -> Vec<u8> {
+        let mut text = header.to_vec();
         for (b, bead) in self.beads.iter().enumerate() {
             let rule = if bead.rule == Rule::Some { "SOME" } else { "ALL" };
             for (s, state) in bead.states.iter().enumerate() {
                 let next: Vec<String> = state.next.iter().map(u16::to_string).collect();
-                text += &format!("{} {} {} {} {}\n", b + 1, rule, s, state.is_final as u16, next.join(" "));
+                text.extend(format!("{} {} {} {} {}\n", b + 1, rule, s, state.is_final as u16, next.join(" ")).bytes());
             }
         }
-        text.into_bytes()
+        text
     }
 
     /// The numbers that an accepted reading puts into the pattern buffer.

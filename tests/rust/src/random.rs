@@ -37,13 +37,30 @@ impl Random {
         (0..width).map(|i| (self.percent(share) as u16) << i).sum()
     }
 
-    pub fn noise(&mut self, length: usize) -> Vec<u16> {
+    pub fn noise<T: Element>(&mut self, length: usize) -> Vec<T> {
         let mut noise = Vec::with_capacity(length + 3);
         while noise.len() < length {
             let bits = self.next();
-            noise.extend((0..4).map(|i| (bits >> (16 * i)) as u16));
+            noise.extend((0..4).map(|i| T::of_bits(bits >> (16 * i))));
         }
         noise.truncate(length);
         noise
+    }
+}
+
+/// What a lent buffer holds: numbers or bytes.
+pub trait Element: Copy + PartialEq {
+    fn of_bits(bits: u64) -> Self;
+}
+
+impl Element for u16 {
+    fn of_bits(bits: u64) -> u16 {
+        bits as u16
+    }
+}
+
+impl Element for u8 {
+    fn of_bits(bits: u64) -> u8 {
+        bits as u8
     }
 }

@@ -1,5 +1,7 @@
 //! What is tried, and how often.
 
+mod writes;
+
 use crate::compare::{Comparison, LENGTHS};
 use crate::damage;
 use crate::generate::{self, Shape};
@@ -9,16 +11,22 @@ use crate::pattern::{self, Pattern, Rule};
 use crate::random::Random;
 use crate::tally::Tally;
 
-/// The reference on the listing: the rows that document 01 prints.
+/// The reference on the listing: the rows that document 01 prints, and both texts written back as they stand there.
 pub fn listing() -> bool {
-    let pattern = pattern::read(include_bytes!("../../../examples/listing/pattern.txt")).expect("the listing's pattern is accepted");
-    let log = log::read(include_bytes!("../../../examples/listing/log.txt"), 3).expect("the listing's log is accepted");
+    let pattern_text = include_bytes!("../../../examples/listing/pattern.txt");
+    let log_text = include_bytes!("../../../examples/listing/log.txt");
+    let pattern = pattern::read(pattern_text).expect("the listing's pattern is accepted");
+    let log = log::read(log_text, 3).expect("the listing's log is accepted");
     let row = |prefixes: u16, pivots: [u16; 3]| -> Row { [prefixes, pivots[0], pivots[1], pivots[2], 0, 0, 0, 0, 0, 0] };
     let bare = |prefixes| row(prefixes, [0; 3]);
     let printed = [bare(0), bare(1), bare(0), row(2, [0, 1, 3]), bare(0), row(2, [0, 1, 5]), row(3, [0, 1, 6])];
     let right = judge::rows(&pattern, &log) == printed;
     println!("reference on the listing: {} rows, all as printed: {right}", printed.len());
-    right
+    let header = b"bead rule state final vac hot vent\n";
+    let back =
+        pattern::write(&pattern.buffer(), header) == Ok(pattern_text.to_vec()) && log::write(&log.buffer(), 3) == Ok(log_text.to_vec());
+    println!("reference on the listing: both texts written back: {back}");
+    right && back
 }
 
 /// The reference judge against every reading of every route, written out, on small logs.
@@ -68,6 +76,7 @@ pub fn all() -> Tally {
     trials.judgings(20, "at all limits", |random| (full_pattern(random), full_log(random, 16, 1_024, 8, 4_096)));
     trials.damaged_buffers(20_000);
     trials.lengths_and_label_counts(6_000);
+    trials.all_writes();
     trials.comparison.tally
 }
 
