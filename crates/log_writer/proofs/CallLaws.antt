@@ -18,7 +18,7 @@ use Rattle.log_line.specs.Limits.{bufferLength, mostLabels}
 use Rattle.log_buffer.specs.Valid.{isLog}
 use Rattle.log_texts.specs.Spelled.{textOf}
 use Rattle.writing.specs.Put.{Put}
-use Rattle.log_lines.specs.Tested.{Tested}
+use Rattle.log_layout.specs.Tested.{Tested}
 use Rattle.log_writer.specs.Writer.{logWritten, fitFaults, writeFaults, writeAnswer, textAfter, fitAnswer, fitAfter}
 use Rattle.log_writer.proofs.Fits.{text-fits}
 

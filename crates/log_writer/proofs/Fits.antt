@@ -15,7 +15,7 @@ use Rattle.log_line.specs.Format.{Known, conclude, logFormat, logText}
 use Rattle.log_texts.specs.Spelled.{stepsOf, textOf}
 use Rattle.log_texts.proofs.LogBuffers.{text-says}
 use Rattle.log_texts.proofs.LogText.{known}
-use Rattle.log_lines.specs.Tested.{Tested}
+use Rattle.log_layout.specs.Tested.{Tested}
 
 -- An accepted text is no longer than the format allows.
 accepted-fits : (count : ℕ) (text : List ℕ) (k : Known) → logText count text ≡ accepted k → length text ≤ mostText

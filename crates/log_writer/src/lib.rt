@@ -1,11 +1,11 @@
 // Writes a log buffer back as a text.
 use answer::Answer;
-use log_lines::lay_log;
+use log_layout::lay_log;
 ghost use Prim.Native.Nat.{_≤_};
 ghost use mathlib.Core.Path.{_≡_};
 ghost use lib.ListN.{length};
 ghost use Rattle.log_texts.specs.Spelled.{textOf};
-ghost use Rattle.log_lines.specs.Tested.{Tested};
+ghost use Rattle.log_layout.specs.Tested.{Tested};
 ghost use Rattle.log_writer.specs.Writer.{writeAnswer, textAfter, fitAnswer, fitAfter};
 
 // How long the text is: laid out over no places.

@@ -9,7 +9,7 @@ ghost use Rattle.pattern_writer.specs.Tested.{Tested, answerUnder, textU
 use answer::Answer;
 use pattern_header::HeaderAnswer;
 use pattern_header::read_header;
-use pattern_put::put_pattern;
+use pattern_layout::put_pattern;
 use text::lines::Line;
 use text::lines::read_line;
 

@@ -8,7 +8,7 @@ use Rattle.log_writer.proofs.write_fit.Lts as lts
 use Rattle.answer.proofs.accepted.Reads as accepted-reads
 use Rattle.answer.proofs.refused.Reads as refused-reads
 use Rattle.log_test.proofs.is_log.Reads as is-log-reads
-use Rattle.log_lines.proofs.lay_log.Reads as lay-log-reads
+use Rattle.log_layout.proofs.lay_log.Reads as lay-log-reads
 use Rattle.log_writer.proofs.measure.Reads as measure-reads
 
 is-log-requires : tie.Need-is-log-requires
