@@ -65,10 +65,6 @@ fn final_of(set: u16, q: u16) -> u16
     0
 }
 
-{
-    x as usize
-}
-
 // The line of the state q of the bead at place j.
 fn put_row(out: &mut [u8], at: usize, pattern: &[u16], j: u16, q: u16) -> usize
     requires { ⌜ StateOf (now pattern) j q ⌝ }
