@@ -22,7 +22,7 @@ static pattern_writer *const pattern_writers[MAKERS] = {runin_write_pattern, 0, 
 static log_writer *const log_writers[MAKERS] = {runin_write_log, 0, 0, plain_write_log};
 
 /* Buffers with some numbers past their documented lengths, which no call may touch. Any text that is written fits. */
-enum { PAST = 16, MOST_TEXT = 65535 };
+enum { PAST = 16, MOST_TEXT = 65536 };
 struct buffers {
     uint16_t pattern[RUNIN_PATTERN_LENGTH + PAST], log[RUNIN_LOG_LENGTH + PAST];
     uint16_t result[RUNIN_RESULT_LENGTH + PAST], work[RUNIN_WORK_LENGTH + PAST];
