@@ -1,4 +1,4 @@
-/* What the files of the benchmark share: the three jobs under other names, the inputs, the measuring. */
+/* What the files of the benchmark share: the five jobs under other names, the inputs, the measuring. */
 #ifndef BENCH_H
 #define BENCH_H
 
@@ -16,16 +16,27 @@ typedef uint64_t log_reader(const uint8_t *text, size_t text_len, uint16_t label
 typedef uint64_t judge(const uint16_t *pattern, size_t pattern_len, const uint16_t *log, size_t log_len,
                        uint16_t *result, size_t result_len, uint16_t *work, size_t work_len);
 
-/* reader.c: the plain readers. */
+typedef uint64_t pattern_writer(const uint16_t *pattern, size_t pattern_len, const uint8_t *header, size_t header_len,
+                                uint8_t *text, size_t text_len);
+typedef uint64_t log_writer(const uint16_t *log, size_t log_len, uint16_t label_count, uint8_t *text, size_t text_len);
+
+/* reader.c: the plain readers, and how many labels a header text names that is one line, its only newline last (0 for any other text). */
 pattern_reader plain_read_pattern;
 log_reader plain_read_log;
+unsigned header_labels(const uint8_t *header, size_t header_len);
+
+/* writer.c: the plain writers. */
+pattern_writer plain_write_pattern;
+log_writer plain_write_log;
 
 /* same.c: the library's algorithm. rr2838.c: the procedure of RR-2838, straightforward and tuned. */
 judge same_judge;
 judge rr2838_judge;
 judge rr2838_tuned_judge;
 
-/* buffers.c: the host's faults, 1 to 7, for all judges above: 0 where there is none. */
+/* buffers.c: whether some accepted text gives a buffer, and the host's faults, 1 to 7, for all judges above: 0 where there is none. */
+int is_pattern(const uint16_t *pattern);
+int is_log(const uint16_t *log, unsigned labels);
 unsigned buffers_refused(const uint16_t *pattern, size_t pattern_len, const uint16_t *log, size_t log_len,
                          size_t result_len, size_t work_len);
 
@@ -40,7 +51,8 @@ struct input {
     uint8_t pattern[16384], log[65535];
 };
 
-enum { SHAPES = 7, SWEEP = 5 };
+/* FULL_SIZE is a shape at every limit: 8 beads of 16 states, 16 labels, 1,024 steps, 4,096 links. */
+enum { SHAPES = 7, FULL_SIZE = 1, SWEEP = 5 };
 void make_shape(int index, struct input *input);
 void make_sweep(int index, struct input *input);
 void make_random(uint64_t seed, struct input *input);

@@ -1,8 +1,8 @@
-/* The host's faults: buffers too short, or not what some accepted text gives. Both judges in C test what they are lent, as the library
- * does, so that the comparison is fair. */
+/* The host's faults: buffers too short, or not what some accepted text gives. Judges and writers in C test what they are lent, as the
+ * library does, so that the comparison is fair. */
 #include "bench.h"
 
-static int is_pattern(const uint16_t *p) {
+int is_pattern(const uint16_t *p) {
     unsigned labels = p[0], beads = p[1];
     if (labels < 1 || labels > MOST_LABELS || beads < 1 || beads > MOST_BEADS) return 0;
     for (unsigned j = 0; j < MOST_BEADS; j++) {
@@ -30,7 +30,7 @@ static int is_pattern(const uint16_t *p) {
     return 1;
 }
 
-static int is_log(const uint16_t *log, unsigned labels) {
+int is_log(const uint16_t *log, unsigned labels) {
     unsigned steps = log[0];
     if (steps < 1 || steps > MOST_STEPS || log[BEGINS] != 0) return 0;
     if (log[LABELS] != 0 || log[BEGINS + 1] != 0) return 0;

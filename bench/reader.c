@@ -68,6 +68,14 @@ static unsigned pattern_header(const struct bytes *fields, unsigned count) {
     return count - 4;
 }
 
+unsigned header_labels(const uint8_t *header, size_t header_len) {
+    struct bytes fields[MOST_LINE + 1];
+    int len = line_length(header, header_len);
+    if (len < 0 || (size_t)len + 1 != header_len) return 0;
+    unsigned count = split(header, len, fields);
+    return pattern_header(fields, count);
+}
+
 /* The row of the next line, after the last bead (numbered from 1, 0 for none) and its last state. 0, or the refusal. */
 static unsigned pattern_row(const struct bytes *fields, unsigned count, unsigned labels, unsigned last_state, uint16_t *buffer) {
     unsigned last = buffer[1];
