@@ -2,12 +2,13 @@
 use Prim.Native.Nat.{ℕ, _-_, _≤_, _<_}
 use mathlib.Core.Path.{_≡_, sym, ap, ap₂, _∙_}
 use mathlib.Core.Bool.{Bool, true, false, _&&_, _||_}
-use mathlib.Core.List.{List, [], _∷_}
+use mathlib.Core.List.{List, [], _∷_, _++_, append-nil}
 use native.Mathlib.Decide.{ℕ-discrete}
+use native.Mathlib.Nat.{le-refl}
 use native.Mathlib.Omega.{arith}
 use borrow.Author.Tests.{eq-eqb, ne-eqb}
 use lib.Dec.{eqb}
-use lib.ListN.{length, getD, set, replicate, length-replicate}
+use lib.ListN.{length, getD, set, replicate, length-replicate, take, drop, drop-of-length-le}
 use lib.Seq.{getD-set-same, getD-set-other}
 use Rattle.lists.proofs.Tables.{zeros-at}
 use Rattle.sets.specs.Sets.{member, setOf}
@@ -24,6 +25,13 @@ use Rattle.log_buffer.proofs.Meaning.{preds-are}
 use Rattle.step_table.specs.Table.{Tabled, Laid, pulled, BareIf}
 use Rattle.backward.specs.Backward.{PassedBy, PulledBy, Pushed}
 use Rattle.step_table.proofs.TableLaws.{pulled-enters, next-within}
+
+-- a list cleared from its front to its end
+pub all-cleared : (l m : List ℕ) → m ≡ take 0 l ++ (replicate (length l - 0) 0 ++ drop (length l) l) → m ≡ replicate (length l) 0
+all-cleared l m e =
+    let n : length l - 0 ≡ length l = omega arith in
+    let d : drop (length l) l ≡ [] = drop-of-length-le l (le-refl (length l)) in
+    e ∙ ap₂ (λ (k : ℕ) (r : List ℕ). replicate k 0 ++ r) n d ∙ append-nil (replicate (length l) 0)
 
 -- A list of sets as the pass has it: the state q is in the set of the vertex w.
 abbrev pub family : List ℕ → ℕ → ℕ → Bool

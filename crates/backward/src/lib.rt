@@ -11,11 +11,8 @@ ghost use Rattle.backward.specs.Backward.{Begins, Inside, Pushed, Pulled
 pub fn clear(list: &mut [u16])
     ensures { λ _. ⌜ now (list .exit) ≡ replicate (length (now (list .entry))) 0 ⌝ }
 {
-    let mut i = 0;
-    while i < list.len() {
-        list[i] = 0;
-        i += 1;
-    }
+    let n = list.len();
+    lists::clear(list, 0, n);
 }
 
 // Adds the set to the set of each listed step.

@@ -16,7 +16,8 @@ use Rattle.pattern_order.specs.Row.{Row}
 use Rattle.pattern_store.specs.Next.{statesOf}
 use Rattle.pattern_store.specs.Format.{Known, patternText}
 use Rattle.pattern_store.specs.Buffer.{beadCount, ruleOfBead, acceptingOf, nextOf, bufferOf}
-use Rattle.pattern_buffer.specs.Meaning.{at, labelsIn, beadsIn, modalityOf, patternOf}
+use Rattle.lists.specs.Places.{at}
+use Rattle.pattern_buffer.specs.Meaning.{labelsIn, beadsIn, modalityOf, patternOf}
 use Rattle.pattern_buffer.specs.Valid.{isPattern}
 use Rattle.pattern_texts.specs.Given.{GivenPattern}
 use Rattle.pattern_texts.specs.Spelled.{rowsOf, textOf}
