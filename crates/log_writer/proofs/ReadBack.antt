@@ -70,7 +70,7 @@ same-text count a b few long-a long-b t u e =
     let k : known (stepsOf (take bufferLength a)) ≡ known (stepsOf (take bufferLength b)) = cc in
     sym (steps-back count a long-a t) ∙ ap (λ (m : Known). bufferOf (m .steps)) k ∙ steps-back count b long-b u
 
--- A text that says such steps fills any buffer that is long enough with what they give.
+-- Reading the text under the label count gives the first 7,170 numbers of the log buffer.
 pub record ReadBack (log : List ℕ) (count : ℕ) (text : List ℕ) : Type 0 where
   pub read : Known
   pub reads : logText count text ≡ accepted read
