@@ -133,4 +133,4 @@ module _ (b : List ℕ) (j q : ℕ) (s : StateOf b j q) where
 pub row-next : (i k r : ℕ) → k ≤ i + 17 → r ≤ k + 102 → r ≤ i + 119
 row-next i k r h g = omega arith
 
-pub ruleset row-kit = (few-states, final-in, rule-in, labels-in, bead-fits, sets-end, sets-fit, few-sets, row-put, row-next)
+pub ruleset place-kit = (few-states, final-in, rule-in, labels-in, bead-fits, sets-end, sets-fit, few-sets)
