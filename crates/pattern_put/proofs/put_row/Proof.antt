@@ -28,11 +28,11 @@ mul-from-2 c = search needs
 add-from-2 : tie.Need-add-from-2
 add-from-2 c = search needs
 
-shared-slice-read-wide : tie.Need-shared-slice-read-wide
-shared-slice-read-wide c = search (needs, place-kit)
+shared-slice-read-labels : tie.Need-shared-slice-read-labels
+shared-slice-read-labels c = search (needs, place-kit)
 
-wide-requires : tie.Need-wide-requires
-wide-requires c κs = search needs
+cast-to : tie.Need-cast-to
+cast-to c = search (needs, place-kit)
 
 add-to : tie.Need-add-to
 add-to c = search (needs, place-kit)
@@ -85,8 +85,8 @@ put-row-spec =
     add-from
     mul-from-2
     add-from-2
-    shared-slice-read-wide
-    wide-requires
+    shared-slice-read-labels
+    cast-to
     add-to
     add-put-start
     add-put-start-2
