@@ -99,39 +99,40 @@ module _ (b : List ℕ) (j q : ℕ) (s : StateOf b j q) where
   pub bead-fits : j + 1 < 65536
   bead-fits = let g = few-beads in omega arith
 
-  module _ (w : ℕ) (e : w ≡ getD b 0 0) where
-    few-labels : w ≤ 16
-    few-labels = let h = passes-out b (s .is-pattern) .labels-most in omega arith
+  few-labels : getD b 0 0 ≤ 16
+  few-labels = passes-out b (s .is-pattern) .labels-most
 
-    pub sets-end : 26 + 256 * j + 16 * q + w ≤ length b
-    sets-end = let h = passes-out b (s .is-pattern) .long in let g = few-beads in let f = few-states in let l = few-labels in omega arith
+  pub labels-fit : getD b 0 0 < 65536
+  labels-fit = let l = few-labels in omega arith
 
-    pub sets-fit : 26 + 256 * j + 16 * q + w < 2 ^ 64
-    sets-fit = let g = few-beads in let f = few-states in let l = few-labels in omega arith
+  pub sets-end : 26 + 256 * j + 16 * q + getD b 0 0 ≤ length b
+  sets-end = let h = passes-out b (s .is-pattern) .long in let g = few-beads in let f = few-states in let l = few-labels in omega arith
 
-    pub few-sets : length (take (26 + 256 * j + 16 * q + w - (26 + 256 * j + 16 * q)) (drop (26 + 256 * j + 16 * q) b)) ≤ 16
-    few-sets =
-        let l = few-labels in
-        let h = sets-end in
-        let d = length-drop (26 + 256 * j + 16 * q) b in
-        let e = length-take-le (26 + 256 * j + 16 * q + w - (26 + 256 * j + 16 * q)) (drop (26 + 256 * j + 16 * q) b) (omega arith) in
-        omega arith
+  pub sets-fit : 26 + 256 * j + 16 * q + getD b 0 0 < 2 ^ 64
+  sets-fit = let g = few-beads in let f = few-states in let l = few-labels in omega arith
 
-    sets-are : take (26 + 256 * j + 16 * q + w - (26 + 256 * j + 16 * q)) (drop (26 + 256 * j + 16 * q) b) ≡ rowIn b j q .next
-    sets-are =
-        let z : 26 + 256 * j + 16 * q + w - (26 + 256 * j + 16 * q) ≡ w = omega arith in
-        ap (λ (n : ℕ). take n (drop (26 + 256 * j + 16 * q) b)) z ∙ sym (sets-there b (26 + 256 * j + 16 * q) w sets-end)
-        ∙ ap (table (λ a. at b (nextAt j q a))) e
+  pub few-sets : length (take (26 + 256 * j + 16 * q + getD b 0 0 - (26 + 256 * j + 16 * q)) (drop (26 + 256 * j + 16 * q) b)) ≤ 16
+  few-sets =
+      let l = few-labels in
+      let h = sets-end in
+      let d = length-drop (26 + 256 * j + 16 * q) b in
+      let e = length-take-le (26 + 256 * j + 16 * q + getD b 0 0 - (26 + 256 * j + 16 * q)) (drop (26 + 256 * j + 16 * q) b) (omega arith) in
+      omega arith
 
-    pub row-put : (l m new : List ℕ) (i k f r : ℕ) → f ≡ cond (member q (getD b (18 + j) 0)) 1 0 → Put (rowStart (j + 1) (getD b (2 + j) 0) q) i l k m
-        → Put (rowEnd f (take (26 + 256 * j + 16 * q + w - (26 + 256 * j + 16 * q)) (drop (26 + 256 * j + 16 * q) b))) k m r new
-        → Put (lineFrom (fieldsOf (rowIn b j q))) i l r new
-    row-put l m new i k f r g a c =
-        rw (sym (line-parts (rowIn b j q)))
-        (then (rowStart (j + 1) (getD b (2 + j) 0) q) (rowEnd (rowIn b j q .accepting) (rowIn b j q .next)) l m new i k r a
-        (rw (g, sets-are) at c))
+  sets-are : take (26 + 256 * j + 16 * q + getD b 0 0 - (26 + 256 * j + 16 * q)) (drop (26 + 256 * j + 16 * q) b) ≡ rowIn b j q .next
+  sets-are =
+      let z : 26 + 256 * j + 16 * q + getD b 0 0 - (26 + 256 * j + 16 * q) ≡ getD b 0 0 = omega arith in
+      ap (λ (n : ℕ). take n (drop (26 + 256 * j + 16 * q) b)) z ∙ sym (sets-there b (26 + 256 * j + 16 * q) (getD b 0 0) sets-end)
+
+  pub row-put : (l m new : List ℕ) (i k f r : ℕ) → f ≡ cond (member q (getD b (18 + j) 0)) 1 0 → Put (rowStart (j + 1) (getD b (2 + j) 0) q) i l k m
+      → Put (rowEnd f (take (26 + 256 * j + 16 * q + getD b 0 0 - (26 + 256 * j + 16 * q)) (drop (26 + 256 * j + 16 * q) b))) k m r new
+      → Put (lineFrom (fieldsOf (rowIn b j q))) i l r new
+  row-put l m new i k f r g a c =
+      rw (sym (line-parts (rowIn b j q)))
+      (then (rowStart (j + 1) (getD b (2 + j) 0) q) (rowEnd (rowIn b j q .accepting) (rowIn b j q .next)) l m new i k r a
+      (rw (g, sets-are) at c))
 
 pub row-next : (i k r : ℕ) → k ≤ i + 17 → r ≤ k + 102 → r ≤ i + 119
 row-next i k r h g = omega arith
 
-pub ruleset row-kit = (few-states, final-in, rule-in, labels-in, bead-fits, sets-end, sets-fit, few-sets, row-put, row-next)
+pub ruleset place-kit = (few-states, final-in, rule-in, labels-in, labels-fit, bead-fits, sets-end, sets-fit, few-sets)

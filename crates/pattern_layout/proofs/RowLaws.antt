@@ -104,13 +104,5 @@ pub ruleset beads-kit = (no-beads, beads-more, beads-all, beads-in, bead-fits, b
 
 -- ---- the whole text
 
-pub header-room : (header : List ℕ) → length header * 1 < 2 ^ 63 → 0 + length header < 2 ^ 64
-header-room header h = omega arith
-
-pub rows-room : (l m header : List ℕ) (k : ℕ) → length header * 1 < 2 ^ 63 → Put header 0 l k m → k + 15232 < 2 ^ 64
-rows-room l m header k h a = omega (arith, a .next)
-
 pub text-put : (l m new header b : List ℕ) (k r : ℕ) → Put header 0 l k m → Put (rowLines (rowsOf b)) k m r new → Put (textUnder header b) 0 l r new
 text-put l m new header b k r a c = then header (rowLines (rowsOf b)) l m new 0 k r a c
-
-pub ruleset text-kit = (header-room, rows-room, text-put)

@@ -74,7 +74,8 @@ fn put_row(out: &mut [u8], at: usize, pattern: &[u16], j: u16, q: u16) -> usize
 {
     let accepting = final_of(pattern[18 + j as usize], q);
     let from = 26 + 256 * j as usize + 16 * q as usize;
-    let to = from + lists::wide(pattern[0]);
+    let labels = pattern[0];
+    let to = from + labels as usize;
     let next = put_start(out, at, j + 1, pattern[2 + j as usize], q);
     put_end(out, next, accepting, &pattern[from..to])
 }

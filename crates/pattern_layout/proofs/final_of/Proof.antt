@@ -5,7 +5,7 @@ use Rattle.pattern_layout.proofs.final_of.Statement.{statement}
 use Rattle.pattern_layout.proofs.final_of.Tie as tie
 
 member-requires : tie.Need-member-requires
-member-requires c κs = search (needs, final-kit)
+member-requires c κs = search needs
 
 returns : tie.Need-returns
 returns c = search (needs, final-kit)

@@ -16,10 +16,10 @@ abbrev μ-loop : tie.MeasureT-loop
 μ-loop out₀ at pattern j states next₀ q₀ out next q = getD pattern (10 + j) 0 - q
 
 add-states : tie.Need-add-states Inv-loop μ-loop
-add-states c = search (needs, bead-kit)
+add-states c = search needs
 
 mul-states : tie.Need-mul-states Inv-loop μ-loop
-mul-states c = search (needs, bead-kit)
+mul-states c = search needs
 
 shared-slice-read-states : tie.Need-shared-slice-read-states Inv-loop μ-loop
 shared-slice-read-states c = search (needs, bead-kit)
@@ -34,13 +34,13 @@ add-q : tie.Need-add-q Inv-loop μ-loop
 add-q c = search (needs, bead-kit)
 
 loop-less : tie.Need-loop-less Inv-loop μ-loop
-loop-less c = search (needs, bead-kit)
+loop-less c = search needs
 
 loop-again : tie.Need-loop-again Inv-loop μ-loop
 loop-again c = search (needs, bead-kit)
 
 same-length : tie.Need-same-length Inv-loop μ-loop
-same-length c = search (needs, bead-kit)
+same-length c = search needs
 
 returns : tie.Need-returns Inv-loop μ-loop
 returns c = search (needs, bead-kit)

@@ -28,13 +28,13 @@ add-j : tie.Need-add-j Inv-loop μ-loop
 add-j c = search (needs, beads-kit)
 
 loop-less : tie.Need-loop-less Inv-loop μ-loop
-loop-less c = search (needs, beads-kit)
+loop-less c = search needs
 
 loop-again : tie.Need-loop-again Inv-loop μ-loop
 loop-again c = search (needs, beads-kit)
 
 same-length : tie.Need-same-length Inv-loop μ-loop
-same-length c = search (needs, beads-kit)
+same-length c = search needs
 
 returns : tie.Need-returns Inv-loop μ-loop
 returns c = search (needs, beads-kit)

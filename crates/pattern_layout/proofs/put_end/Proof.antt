@@ -5,16 +5,16 @@ use Rattle.pattern_layout.proofs.put_end.Statement.{statement}
 use Rattle.pattern_layout.proofs.put_end.Tie as tie
 
 put-number-requires : tie.Need-put-number-requires
-put-number-requires c κs = search (needs, part-kit)
+put-number-requires c κs = search needs
 
 put-listed-requires : tie.Need-put-listed-requires
-put-listed-requires c κs = search (needs, part-kit)
+put-listed-requires c κs = search needs
 
 put-byte-requires : tie.Need-put-byte-requires
-put-byte-requires c κs = search (needs, part-kit)
+put-byte-requires c κs = search needs
 
 same-length : tie.Need-same-length
-same-length c = search (needs, part-kit)
+same-length c = search needs
 
 returns : tie.Need-returns
 returns c = search (needs, part-kit)

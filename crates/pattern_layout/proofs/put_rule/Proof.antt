@@ -5,25 +5,25 @@ use Rattle.pattern_layout.proofs.put_rule.Statement.{statement}
 use Rattle.pattern_layout.proofs.put_rule.Tie as tie
 
 slice-aggregate-put-bytes : tie.Need-slice-aggregate-put-bytes
-slice-aggregate-put-bytes c = search (needs, rule-kit)
+slice-aggregate-put-bytes c = search needs
 
 put-bytes-requires : tie.Need-put-bytes-requires
-put-bytes-requires c κs = search (needs, rule-kit)
+put-bytes-requires c κs = search needs
 
 same-length : tie.Need-same-length
-same-length c = search (needs, rule-kit)
+same-length c = search needs
 
 returns : tie.Need-returns
 returns c = search (needs, rule-kit)
 
 slice-aggregate-put-bytes-2 : tie.Need-slice-aggregate-put-bytes-2
-slice-aggregate-put-bytes-2 c = search (needs, rule-kit)
+slice-aggregate-put-bytes-2 c = search needs
 
 put-bytes-requires-2 : tie.Need-put-bytes-requires-2
-put-bytes-requires-2 c κs = search (needs, rule-kit)
+put-bytes-requires-2 c κs = search needs
 
 same-length-2 : tie.Need-same-length-2
-same-length-2 c = search (needs, rule-kit)
+same-length-2 c = search needs
 
 returns-2 : tie.Need-returns-2
 returns-2 c = search (needs, rule-kit)

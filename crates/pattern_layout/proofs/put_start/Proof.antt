@@ -5,16 +5,16 @@ use Rattle.pattern_layout.proofs.put_start.Statement.{statement}
 use Rattle.pattern_layout.proofs.put_start.Tie as tie
 
 put-ended-requires : tie.Need-put-ended-requires
-put-ended-requires c κs = search (needs, part-kit)
+put-ended-requires c κs = search needs
 
 put-rule-requires : tie.Need-put-rule-requires
-put-rule-requires c κs = search (needs, part-kit)
+put-rule-requires c κs = search needs
 
 put-ended-requires-2 : tie.Need-put-ended-requires-2
-put-ended-requires-2 c κs = search (needs, part-kit)
+put-ended-requires-2 c κs = search needs
 
 same-length : tie.Need-same-length
-same-length c = search (needs, part-kit)
+same-length c = search needs
 
 returns : tie.Need-returns
 returns c = search (needs, part-kit)
