@@ -2,22 +2,14 @@
 
 // After a refusal.
 pub fn print_unchanged(result: &[u16], work: &[u16]) {
-    print_claim(b"; result kept", outcome::is_marked(result));
-    print_claim(b", work kept", outcome::is_marked(work));
+    outcome::print_claim(b"; result kept", outcome::is_marked(result));
+    outcome::print_claim(b", work kept", outcome::is_marked(work));
 }
 
 // After number 0.
 pub fn print_work(work: &[u16]) {
-    print_claim(b", work 0", is_zero(work, 0, 16384));
-    print_claim(b", guard kept", is_guarded(work, 16384));
-}
-
-// A claim that fails is printed with a word more.
-pub fn print_claim(claim: &[u8], holds: bool) {
-    if !holds {
-        outcome::print_bytes(b" FAILS:");
-    }
-    outcome::print_bytes(claim);
+    outcome::print_claim(b", work 0", is_zero(work, 0, 16384));
+    outcome::print_claim(b", guard kept", is_guarded(work, 16384));
 }
 
 // Are the numbers from one index up to another all 0?

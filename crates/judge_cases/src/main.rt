@@ -1,15 +1,16 @@
 // The readers and the judge on the texts of `cases.txt`, a line a case; at the end, how many cases got each answer.
 //
 // A line of the file has its columns parted by tabs: what is tried; the pattern and the log, each as a script (`script::expand`) or
-// `=` for the listing of document 01 (`pattern.txt`, `log.txt`); and settings (`settings.rt`). A case prints whose answer it is and
-// what the calls left. The buffers have six numbers more than the format uses, and each number is a mark before the first call.
+// `=` for the listing of document 01 (`pattern.txt`, `log.txt`); and settings (crate `settings`): `P`, `L`, `R`, `W` with a number: how
+// many numbers of the pattern, log, result and work buffer the judge is lent; `c` with a number: the label count that the log reader is
+// handed in place of the pattern's; `p` and `l`: a place of the pattern or log buffer that is set after reading. A case prints whose
+// answer it is and what the calls left. The buffers have six numbers more than the format uses, and each number is a mark before the
+// first call.
 use answer::Answer;
-ghost use Rattle.io.specs.Counts.{Counts};
 
 mod calls;
 mod kept;
 mod rows;
-mod settings;
 
 fn main() {
     let mut file = [0u8; 65536];
@@ -59,26 +60,16 @@ fn try_damaged(settings: &[u8], pattern: &mut [u16], log: &mut [u16]) -> u16 {
 
 fn read_pattern(script: &[u8], pattern: &mut [u16]) -> Answer {
     let mut text = [0u8; 17000];
-    let n = load_text(script, b"pattern.txt", &mut text);
+    let n = script::load(script, b"pattern.txt", &mut text);
     outcome::mark(pattern);
     calls::read_pattern(&text[..n], pattern)
 }
 
 fn read_log(script: &[u8], labels: u16, log: &mut [u16]) -> Answer {
     let mut text = [0u8; 66000];
-    let n = load_text(script, b"log.txt", &mut text);
+    let n = script::load(script, b"log.txt", &mut text);
     outcome::mark(log);
     calls::read_log(&text[..n], labels, log)
-}
-
-// The file where the script is `=`, or else what the script expands to.
-fn load_text(script: &[u8], path: &[u8], text: &mut [u8]) -> usize
-    ensures { λ r. ⌜ Counts r (now (text .exit)) ⌝ }
-{
-    if trial::get_byte(script, 0) == b'=' {
-        return trial::load(path, text);
-    }
-    script::expand(script, text)
 }
 
 // The refusal of a reader whose buffer was all marks.
@@ -92,8 +83,8 @@ fn try_judge(settings: &[u8], pattern: &[u16], log: &[u16]) -> u16 {
     let p = outcome::sum_of_sums(pattern);
     let l = outcome::sum_of_sums(log);
     let number = judge(settings, pattern, log);
-    kept::print_claim(b", pattern kept", outcome::sum_of_sums(pattern) == p);
-    kept::print_claim(b", log kept\n", outcome::sum_of_sums(log) == l);
+    outcome::print_claim(b", pattern kept", outcome::sum_of_sums(pattern) == p);
+    outcome::print_claim(b", log kept\n", outcome::sum_of_sums(log) == l);
     number
 }
 

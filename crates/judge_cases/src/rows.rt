@@ -1,7 +1,6 @@
 // The rows of the result buffer. Each number up to a row's last one that is not 0 is printed, so a number in an unused place shows.
 use crate::kept::is_guarded;
 use crate::kept::is_zero;
-use crate::kept::print_claim;
 ghost use Prim.Native.Nat.{_≤_};
 
 // The rows, ` v:prefixes:p0,p1` and so on; of a log of more than 16 steps the sum of sums of the 10240 numbers in their place.
@@ -12,8 +11,8 @@ pub fn print_rows(steps: u16, result: &[u16]) {
         outcome::print_bytes(b" rows");
         print_each(steps, result);
     }
-    print_claim(b"; rest 0", is_zero(result, place(steps, 0), 10240));
-    print_claim(b", guard kept", is_guarded(result, 10240));
+    outcome::print_claim(b"; rest 0", is_zero(result, place(steps, 0), 10240));
+    outcome::print_claim(b", guard kept", is_guarded(result, 10240));
 }
 
 fn print_sum(result: &[u16]) {

@@ -15,6 +15,7 @@ pub use marks::print_sum;
 pub use marks::sum_of_sums;
 pub use print::print_after;
 pub use print::print_bytes;
+pub use print::print_claim;
 pub use print::print_count;
 pub use print::print_line;
 pub use print::print_number;

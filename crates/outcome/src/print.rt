@@ -28,3 +28,11 @@ pub fn print_count(name: &[u8], n: u64) {
     print_number(n);
     print_bytes(b"\n");
 }
+
+// A claim that fails is printed with a word more.
+pub fn print_claim(claim: &[u8], holds: bool) {
+    if !holds {
+        print_bytes(b" FAILS:");
+    }
+    print_bytes(claim);
+}

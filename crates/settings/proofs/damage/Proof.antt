@@ -3,8 +3,8 @@ use Prim.Native.Nat.{_+_, _≤_, _-_}
 use lib.ListN.{length}
 use mathlib.Core.Path.{_≡_}
 use borrow.Author.Needs.{needs}
-use Rattle.judge_cases.proofs.settings.damage.Statement.{statement}
-use Rattle.judge_cases.proofs.settings.damage.Tie as tie
+use Rattle.settings.proofs.damage.Statement.{statement}
+use Rattle.settings.proofs.damage.Tie as tie
 
 abbrev Inv-loop : tie.InvT-loop
 Inv-loop settings letter buffer₀ at₀ buffer at = (at ≤ length settings + 1) × (length buffer ≡ length buffer₀)

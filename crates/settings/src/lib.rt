@@ -1,6 +1,6 @@
-// Settings: items joined by commas. `P`, `L`, `R`, `W` with a number: how many numbers of the pattern, log, result and work buffer
-// the judge is lent. `c` with a number: the label count that the log reader is handed in place of the pattern's. `p` and `l` with a
-// place, `=` and a number: that place of the pattern or log buffer is set to the number after reading.
+// Settings of a case: items joined by commas, each a letter and what it sets. A letter with a number says how many numbers of a buffer are
+// lent, or a count; a letter with a place, `=` and a number says that this place of a buffer is set to the number. Which letter means
+// what is the program's.
 ghost use Prim.Native.Nat.{_≤_};
 
 // The number of the first item with this letter; without such an item the other one.

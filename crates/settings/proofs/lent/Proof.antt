@@ -1,8 +1,8 @@
 -- `lent` lends no more numbers than the buffer has.
 use Rattle.trial.proofs.CountLaws.{kit}
 use borrow.Author.Needs.{needs}
-use Rattle.judge_cases.proofs.settings.lent.Statement.{statement}
-use Rattle.judge_cases.proofs.settings.lent.Tie as tie
+use Rattle.settings.proofs.lent.Statement.{statement}
+use Rattle.settings.proofs.lent.Tie as tie
 
 at-most-requires : tie.Need-at-most-requires
 at-most-requires c κs = search (needs, kit)

@@ -2,8 +2,8 @@
 use Prim.Native.Nat.{_+_, _≤_, _-_}
 use lib.ListN.{length}
 use borrow.Author.Needs.{needs}
-use Rattle.judge_cases.proofs.settings.value.Statement.{statement}
-use Rattle.judge_cases.proofs.settings.value.Tie as tie
+use Rattle.settings.proofs.value.Statement.{statement}
+use Rattle.settings.proofs.value.Tie as tie
 
 abbrev Inv-loop : tie.InvT-loop
 Inv-loop settings letter other at₀ at = at ≤ length settings + 1
