@@ -1,4 +1,4 @@
-// Cases counted by kind: the same six kinds in front for each writer, and then kinds of its own.
+// Cases counted by kind and by answer, the same for each writer; behind these a program has kinds of its own.
 use crate::bytes::is_same;
 use tallies::add;
 use tallies::add_if;
@@ -14,6 +14,25 @@ const SHORTER: usize = 3;
 const READ_BACK: usize = 4;
 
 const SAME_TEXT: usize = 5;
+
+// Where the answer with this number is counted: the refusals of both writers have a place each, and any other number the last.
+fn answer_place(number: u16) -> usize {
+    match number {
+        0 => 6,
+        1 => 7,
+        2 => 8,
+        5 => 9,
+        6 => 10,
+        7 => 11,
+        8 => 12,
+        12 => 13,
+        _ => 14,
+    }
+}
+
+pub fn count_answer(number: u16, kinds: &mut [u64]) {
+    add(kinds, answer_place(number), 1);
+}
 
 // A text that the reader refuses gives no room.
 pub fn count_unread(kinds: &mut [u64]) {

@@ -8,6 +8,7 @@ pub use bytes::is_same;
 pub use bytes::mark;
 pub use bytes::sum_of_sums;
 pub use kinds::change;
+pub use kinds::count_answer;
 pub use kinds::count_lent;
 pub use kinds::count_same;
 pub use kinds::count_unread;
