@@ -38,7 +38,7 @@ pub fn begin(log: &[u16], v: usize) -> usize
 }
 
 // Adds the set to the set of each predecessor of the step x.
-pub fn push(log: &[u16], x: usize, set: u16, states: &mut [u16])
+fn push(log: &[u16], x: usize, set: u16, states: &mut [u16])
     requires { ⌜ Laid (now log) ⌝ }
     requires { ⌜ x < stepsIn (now log) ⌝ }
     requires { ⌜ mostSteps ≤ length (now states) ⌝ }

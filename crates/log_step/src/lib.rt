@@ -36,7 +36,7 @@ pub enum LineAnswer {
 }
 
 // Labels on step 0, or a label past the label count.
-pub fn is_mislabelled(count: u16, v: u16, set: u16) -> bool
+fn is_mislabelled(count: u16, v: u16, set: u16) -> bool
     requires { ⌜ count ≤ 16 ⌝ }
     ensures { λ r. ⌜ r ≡ mislabelled count v set ⌝ }
 {
@@ -63,14 +63,7 @@ pub fn is_over(links: usize, v: u16, before: u16) -> bool
 }
 
 // The values of step v, after steps with so many links, by the scan of its field `preds`, or 24, 25, 26.
-pub fn judge_values(
-    scan: PredScan,
-    board: u16,
-    set: u16,
-    count: u16,
-    v: u16,
-    before: u16,
-) -> LineAnswer
+fn judge_values(scan: PredScan, board: u16, set: u16, count: u16, v: u16, before: u16) -> LineAnswer
     requires { ⌜ count ≤ 16 ⌝ }
     ensures { λ r. ⌜ JudgedBy scan count v before board set r ⌝ }
 {

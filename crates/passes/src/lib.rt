@@ -73,7 +73,7 @@ fn flag(b: bool) -> u16
 }
 
 // The flags of a SOME bead.
-pub fn flag_some(states: &[u16], prefixes: &[u16], bead: usize, target: usize, flags: &mut [u16])
+fn flag_some(states: &[u16], prefixes: &[u16], bead: usize, target: usize, flags: &mut [u16])
     requires { ⌜ bead < mostBeads ⌝ }
     requires { ⌜ target ≤ length (now states) ⌝ }
     requires { ⌜ target ≤ length (now prefixes) ⌝ }
@@ -89,7 +89,7 @@ pub fn flag_some(states: &[u16], prefixes: &[u16], bead: usize, target: usize, f
 }
 
 // The flags of an ALL bead.
-pub fn flag_all(
+fn flag_all(
     states: &[u16],
     others: &[u16],
     prefixes: &[u16],

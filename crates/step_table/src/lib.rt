@@ -10,7 +10,7 @@ ghost use Rattle.pattern_buffer.specs.Meaning.{automatonOf};
 ghost use Rattle.step_table.specs.Table.{reached, tableLength, Tabled, Laid, pulled, BareIf};
 
 // The states to which entering a vertex with these labels leads from a state: the state itself where there are none.
-pub fn enter(pattern: &[u16], bead: usize, labels: u16, state: u16) -> u16
+fn enter(pattern: &[u16], bead: usize, labels: u16, state: u16) -> u16
     requires { ⌜ patternLength ≤ length (now pattern) ⌝ }
     requires { ⌜ bead < mostBeads ⌝ }
     requires { ⌜ state < mostStates ⌝ }
