@@ -1,4 +1,4 @@
--- Measuring, test 8 and laying; and what is left of the call behind each test.
+-- The output, measuring, test 8 and laying; and what is left of the call behind each test.
 -- Assumes nothing.
 use Prim.Native.Nat.{ℕ, _+_, _≤_, _<_}
 use mathlib.Core.Path.{_≡_, refl, sym, ap, _∙_}
@@ -17,15 +17,21 @@ use Rattle.answer.specs.Answers.{acceptedWith, refusedAt}
 use Rattle.answer.specs.Faults.{Fault, when, firstFault, answerOr, keptOr}
 use Rattle.answer.proofs.FaultLaws.{answer-refused, answer-accepted, room-kept, room-filled, first-below, stopped-below, passed-past, passed-all}
 use Rattle.writing.specs.Put.{Put}
+use Rattle.writing.proofs.PutLaws.{then}
 use Rattle.pattern_line.specs.Limits.{bufferLength}
 use Rattle.pattern_buffer.specs.Meaning.{labelsIn}
 use Rattle.pattern_buffer.specs.Valid.{isPattern}
 use Rattle.pattern_buffer.proofs.Places.{passes-out}
-use Rattle.pattern_texts.specs.Spelled.{textUnder}
+use Rattle.pattern_texts.specs.Spelled.{rowsOf, rowLines, textUnder}
 use Rattle.pattern_texts.proofs.TextUnder.{under-length}
 use Rattle.pattern_writer.specs.Writer.{headerFits, written, inFront, roomFaults, testFaults, writeAnswer, textAfter}
 use Rattle.pattern_writer.specs.Tested.{Tested, answerUnder, textUnderFaults}
 use Rattle.pattern_writer.proofs.HeaderLaws.{headed}
+
+-- ---- the output
+
+pub text-put : (l m new header b : List ℕ) (k r : ℕ) → Put header 0 l k m → Put (rowLines (rowsOf b)) k m r new → Put (textUnder header b) 0 l r new
+text-put l m new header b k r a c = then header (rowLines (rowsOf b)) l m new 0 k r a c
 
 -- ---- measuring
 
