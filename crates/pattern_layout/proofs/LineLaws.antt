@@ -12,13 +12,10 @@ use Rattle.sets.specs.Sets.{member}
 use Rattle.lists.specs.Tables.{table}
 use Rattle.lists.proofs.Tables.{table-is}
 use Rattle.text.specs.Split.{joined, lineFrom}
-use Rattle.numbers.specs.Numbers.{spell}
-use Rattle.writing.specs.Put.{Put, listed}
+use Rattle.writing.specs.Put.{Put}
 use Rattle.writing.proofs.PutLaws.{then, joined-listed}
-use Rattle.pattern_line.specs.Limits.{statesAt, nextAt}
 use Rattle.pattern_order.specs.Row.{Row}
 use Rattle.lists.specs.Places.{at}
-use Rattle.pattern_buffer.specs.Meaning.{labelsIn}
 use Rattle.pattern_buffer.proofs.Places.{passes-out, bead-there}
 use Rattle.pattern_texts.specs.Spelled.{rowIn, ruleWord, fieldsOf}
 use Rattle.pattern_layout.specs.Parts.{rowStart, rowEnd, StateOf}

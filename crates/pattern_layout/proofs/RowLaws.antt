@@ -1,4 +1,4 @@
--- The lines of a bead's states, and of all beads, one after the other; and the header before them.
+-- The lines of a bead's states, and of all beads, one after the other.
 -- Assumes nothing.
 use Prim.Native.Nat.{ℕ, _+_, _*_, _^_, _≤_, _<_}
 use mathlib.Core.Path.{_≡_, refl, sym, ap, _∙_}
@@ -16,7 +16,7 @@ use Rattle.lists.specs.Places.{at}
 use Rattle.pattern_buffer.specs.Meaning.{beadsIn}
 use Rattle.pattern_buffer.specs.Valid.{isPattern}
 use Rattle.pattern_buffer.proofs.Places.{passes-out, bead-there}
-use Rattle.pattern_texts.specs.Spelled.{rowIn, rowsOfBead, rowsOfBeads, rowsOf, fieldsOf, rowLines, textUnder}
+use Rattle.pattern_texts.specs.Spelled.{rowIn, rowsOfBead, rowsOfBeads, rowsOf, fieldsOf, rowLines}
 use Rattle.pattern_layout.specs.Parts.{StateOf}
 
 lines-append : (rs ss : List Row) → rowLines rs ++ rowLines ss ≡ rowLines (rs ++ ss)
@@ -101,8 +101,3 @@ pub bead-next : (i j k r : ℕ) → k ≤ i + 1904 * j → r ≤ k + 1904 → r 
 bead-next i j k r h g = omega arith
 
 pub ruleset beads-kit = (no-beads, beads-more, beads-all, beads-in, bead-fits, bead-room, bead-next)
-
--- ---- the whole text
-
-pub text-put : (l m new header b : List ℕ) (k r : ℕ) → Put header 0 l k m → Put (rowLines (rowsOf b)) k m r new → Put (textUnder header b) 0 l r new
-text-put l m new header b k r a c = then header (rowLines (rowsOf b)) l m new 0 k r a c

@@ -1,4 +1,4 @@
-// The text of a pattern buffer, put into a buffer of bytes: a header as it is handed in, then a line for each state of each bead.
+// The rows of a pattern buffer, put into a buffer of bytes: a line for each state of each bead.
 // As in `writing`, no function asks for room.
 ghost use Prim.Native.Nat.{_+_, _^_, _≤_, _<_};
 ghost use mathlib.Core.Path.{_≡_};
@@ -12,7 +12,7 @@ ghost use Rattle.writing.specs.Put.{Put};
 ghost use Rattle.pattern_line.specs.Limits.{statesAt};
 ghost use Rattle.pattern_buffer.specs.Meaning.{beadsIn};
 ghost use Rattle.pattern_buffer.specs.Valid.{isPattern};
-ghost use Rattle.pattern_texts.specs.Spelled.{rowIn, rowsOfBead, rowsOf, ruleWord, fieldsOf, rowLines, textUnder};
+ghost use Rattle.pattern_texts.specs.Spelled.{rowIn, rowsOfBead, rowsOf, ruleWord, fieldsOf, rowLines};
 ghost use Rattle.pattern_layout.specs.Parts.{rowStart, rowEnd, StateOf};
 use writing::put_byte;
 use writing::put_bytes;
@@ -96,7 +96,7 @@ fn put_bead(out: &mut [u8], at: usize, pattern: &[u16], j: u16) -> usize
 }
 
 // The lines of all beads, upwards.
-fn put_beads(out: &mut [u8], at: usize, pattern: &[u16]) -> usize
+pub fn put_beads(out: &mut [u8], at: usize, pattern: &[u16]) -> usize
     requires { ⌜ T (isPattern (now pattern)) ⌝ }
     requires { ⌜ at + 15232 < 2 ^ 64 ⌝ }
     ensures { λ r. ⌜ Put (rowLines (rowsOf (now (pattern .entry)))) at (now (out .entry)) r (now (out .exit)) ⌝ }
@@ -107,13 +107,4 @@ fn put_beads(out: &mut [u8], at: usize, pattern: &[u16]) -> usize
         next = put_bead(out, next, pattern, j);
     }
     next
-}
-
-// The whole text, from the front of a buffer. Answers how long it is.
-pub fn put_pattern(out: &mut [u8], pattern: &[u16], header: &[u8]) -> usize
-    requires { ⌜ T (isPattern (now pattern)) ⌝ }
-    ensures { λ r. ⌜ Put (textUnder (now (header .entry)) (now (pattern .entry))) 0 (now (out .entry)) r (now (out .exit)) ⌝ }
-{
-    let next = put_bytes(out, 0, header);
-    put_beads(out, next, pattern)
 }

@@ -2,7 +2,7 @@
 -- Assumes nothing.
 use Prim.Native.Nat.{ℕ, _+_, _^_, _≤_, _<_}
 use mathlib.Core.Path.{_≡_, refl, sym, ap, _∙_, subst}
-use mathlib.Core.Bool.{Bool, true, false, cond, _&&_}
+use mathlib.Core.Bool.{Bool, true, false, cond}
 use mathlib.Core.List.{List, [], _∷_, _++_}
 use native.Mathlib.Omega.{arith}
 use borrow.Author.Tests.{eqb-true}
@@ -25,6 +25,7 @@ use Rattle.pattern_header.specs.Answers.{headerSaid, headerJudged}
 use Rattle.pattern_header.specs.declared.HeaderAnswer.{HeaderAnswer}
 use Rattle.pattern_header.specs.declared.HeaderAnswer.the-variants.{Labels, Refused}
 use Rattle.pattern_texts.specs.Spelled.{Heads}
+use Rattle.pattern_texts.proofs.RowTests.{and-true}
 use Rattle.pattern_writer.specs.Writer.{names, oneHeader, headerFits}
 
 -- ---- the line's fields
@@ -123,22 +124,18 @@ pub record Headed (c : ℕ) (header : List ℕ) : Type 0 where
   pub ended : header ≡ line ++ (10 ∷ [])
   pub heads : Heads c line
 
-both : (s t : Bool) → (s && t) ≡ true → (s ≡ true) × (t ≡ true)
-both true t e = (refl, e)
-both false t e = let z : _≡_ {A = ℕ} 0 1 = cc in absurd (omega arith)
-
 parts-headed : (c : ℕ) (ps : List (List ℕ)) → oneHeader c (asLines ps) ≡ true → Headed c (joined 10 ps)
 unfolding asLines joined
 parts-headed c [] e = let z : _≡_ {A = ℕ} 0 1 = cc in absurd (omega arith)
 parts-headed c ([] ∷ []) e = let z : _≡_ {A = ℕ} 0 1 = cc in absurd (omega arith)
 parts-headed c ((x ∷ p) ∷ []) e =
-    let w = both (whole 240 (record { bytes = x ∷ p; newline = false })) (names c (x ∷ p)) e in
-    let v = both (leb (length (x ∷ p)) 240) false (w .0) in
+    let w = and-true (whole 240 (record { bytes = x ∷ p; newline = false })) (names c (x ∷ p)) e in
+    let v = and-true (leb (length (x ∷ p)) 240) false (w .0) in
     let z : _≡_ {A = ℕ} 0 1 = cc in
     absurd (omega arith)
 parts-headed c (p ∷ ([] ∷ [])) e =
-    let w = both (whole 240 (record { bytes = p; newline = true })) (names c p) e in
-    let v = both (isHeader (split 32 p)) (eqb (labelCount (split 32 p)) c) (w .1) in
+    let w = and-true (whole 240 (record { bytes = p; newline = true })) (names c p) e in
+    let v = and-true (isHeader (split 32 p)) (eqb (labelCount (split 32 p)) c) (w .1) in
     record {
       line = p;
       ended = refl;

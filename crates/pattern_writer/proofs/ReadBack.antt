@@ -3,7 +3,7 @@
 -- Assumes nothing.
 use Prim.Native.Nat.{ℕ, _+_, _≤_}
 use mathlib.Core.Path.{_≡_, refl, sym, ap, _∙_}
-use mathlib.Core.Bool.{Bool, true, false, not}
+use mathlib.Core.Bool.{not}
 use mathlib.Core.List.{List, [], _∷_, _++_}
 use native.Mathlib.Omega.{arith}
 use lib.Dec.{T, ltb}
@@ -12,12 +12,13 @@ use lib.Seq.{take-at, take-all, getD-take}
 use Rattle.sets.proofs.Truth.{true-yes}
 use Rattle.answer.specs.declared.Answer.{Answer}
 use Rattle.answer.specs.Answers.{acceptedWith, refusedAt}
-use Rattle.answer.specs.Faults.{when, firstFault, answerOr, keptOr}
+use Rattle.answer.specs.Faults.{when}
 use Rattle.answer.proofs.FaultLaws.{Passed, numbered, accepted-passed, passed-first, passed-others, answer-accepted, room-filled, passed-past, passed-all}
 use Rattle.text.specs.Walk.{Outcome, accepted}
 use Rattle.pattern_line.specs.Limits.{bufferLength}
+use Rattle.pattern_line.proofs.Lists.{undenied}
 use Rattle.pattern_store.specs.Format.{Known, patternText}
-use Rattle.pattern_store.specs.Buffer.{beadCount, bufferOf}
+use Rattle.pattern_store.specs.Buffer.{bufferOf}
 use Rattle.pattern.specs.Answer.{answerOf, filledBy, hostFaults, patternAnswer, patternAfter}
 use Rattle.pattern_buffer.specs.Meaning.{labelsIn, beadsIn}
 use Rattle.pattern_buffer.specs.Valid.{isPattern}
@@ -30,10 +31,6 @@ use Rattle.pattern_writer.specs.Tested.{Tested}
 use Rattle.pattern_writer.specs.ReadBack.{ReadBack}
 use Rattle.pattern_writer.proofs.HeaderLaws.{headed}
 use Rattle.pattern_writer.proofs.WriteLaws.{written-length}
-
-granted : (t : Bool) → not t ≡ false → t ≡ true
-granted true e = refl
-granted false e = let z : _≡_ {A = ℕ} 0 1 = cc in absurd (omega arith)
 
 module _ (pattern header text : List ℕ) (a : T (accepts pattern header text)) where
   abbrev b : List ℕ
@@ -50,9 +47,9 @@ module _ (pattern header text : List ℕ) (a : T (accepts pattern header text)) 
       let p = passed-others (ltb (length pattern) bufferLength) (refusedAt 2 0) (testFaults b header text) passed in
       let q = passed-others (not (isPattern b)) (refusedAt 6 0) (when (not (headerFits (labelsIn b) header)) (refusedAt 12 1) ∷ roomFaults b header text) p in
       record {
-        is-pattern = true-yes (isPattern b) (granted (isPattern b)
+        is-pattern = true-yes (isPattern b) (undenied (isPattern b)
             (passed-first (not (isPattern b)) (refusedAt 6 0) (when (not (headerFits (labelsIn b) header)) (refusedAt 12 1) ∷ roomFaults b header text) p));
-        fits = granted (headerFits (labelsIn b) header)
+        fits = undenied (headerFits (labelsIn b) header)
             (passed-first (not (headerFits (labelsIn b) header)) (refusedAt 12 1) (roomFaults b header text) q);
       }
 

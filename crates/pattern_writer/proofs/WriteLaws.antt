@@ -1,15 +1,15 @@
--- Measuring, test 8 and laying; and what is left of the call behind each test.
+-- The output, measuring, test 8 and laying; and what is left of the call behind each test.
 -- Assumes nothing.
-use Prim.Native.Nat.{ℕ, _+_, _^_, _≤_, _<_}
+use Prim.Native.Nat.{ℕ, _+_, _≤_, _<_}
 use mathlib.Core.Path.{_≡_, refl, sym, ap, _∙_}
 use mathlib.Core.Bool.{Bool, true, false, not}
-use mathlib.Core.Option.{Option, none, some}
+use mathlib.Core.Option.{Option}
 use mathlib.Core.List.{List, [], _∷_, _++_}
 use native.Mathlib.Omega.{arith}
 use borrow.Author.Tests.{le-ltb}
 use borrow.Rule.Slice.PartMut.{putMid}
 use lib.Dec.{T, ltb}
-use lib.ListN.{length, getD, take, drop}
+use lib.ListN.{length, getD, take, drop, drop-of-length-le}
 use lib.Seq.{sets, sets-eq, length-sets, length-take-le}
 use Rattle.sets.proofs.Truth.{true-yes}
 use Rattle.answer.specs.declared.Answer.{Answer}
@@ -17,21 +17,23 @@ use Rattle.answer.specs.Answers.{acceptedWith, refusedAt}
 use Rattle.answer.specs.Faults.{Fault, when, firstFault, answerOr, keptOr}
 use Rattle.answer.proofs.FaultLaws.{answer-refused, answer-accepted, room-kept, room-filled, first-below, stopped-below, passed-past, passed-all}
 use Rattle.writing.specs.Put.{Put}
+use Rattle.writing.proofs.PutLaws.{then}
 use Rattle.pattern_line.specs.Limits.{bufferLength}
 use Rattle.pattern_buffer.specs.Meaning.{labelsIn}
 use Rattle.pattern_buffer.specs.Valid.{isPattern}
 use Rattle.pattern_buffer.proofs.Places.{passes-out}
-use Rattle.pattern_texts.specs.Spelled.{textUnder}
+use Rattle.pattern_texts.specs.Spelled.{rowsOf, rowLines, textUnder}
 use Rattle.pattern_texts.proofs.TextUnder.{under-length}
-use Rattle.pattern_writer.specs.Writer.{headerFits, written, inFront, roomFaults, testFaults, writeFaults, writeAnswer, textAfter}
+use Rattle.pattern_writer.specs.Writer.{headerFits, written, inFront, roomFaults, testFaults, writeAnswer, textAfter}
 use Rattle.pattern_writer.specs.Tested.{Tested, answerUnder, textUnderFaults}
 use Rattle.pattern_writer.proofs.HeaderLaws.{headed}
 
--- ---- measuring
+-- ---- the output
 
-no-places : (l : List ℕ) → length l ≡ 0 → l ≡ []
-no-places [] e = refl
-no-places (x ∷ xs) e = absurd (omega arith)
+pub text-put : (l m new header b : List ℕ) (k r : ℕ) → Put header 0 l k m → Put (rowLines (rowsOf b)) k m r new → Put (textUnder header b) 0 l r new
+text-put l m new header b k r a c = then header (rowLines (rowsOf b)) l m new 0 k r a c
+
+-- ---- measuring
 
 module _ (b header text new : List ℕ) (n : ℕ) (w : Put (textUnder header b) 0 (take 0 text) n new) where
   pub measured : n ≡ length (written header b)
@@ -39,7 +41,9 @@ module _ (b header text new : List ℕ) (n : ℕ) (w : Put (textUnder header b) 
   measured = omega (arith, w .next)
 
   pub unchanged : putMid 0 0 text new ≡ text
-  unchanged = ap (λ (l : List ℕ). l ++ text) (no-places new (ap length (w .laid) ∙ length-sets (take 0 text) 0 (textUnder header b)))
+  unchanged =
+      let n = ap length (w .laid) ∙ length-sets (take 0 text) 0 (textUnder header b) in
+      ap (λ (l : List ℕ). l ++ text) (drop-of-length-le new {i = 0} (omega arith))
 
 pub ruleset measure-kit = (measured, unchanged)
 

@@ -3,15 +3,18 @@ ghost use Prim.Native.Nat.{_<_};
 ghost use mathlib.Core.Path.{_≡_};
 ghost use lib.Dec.{T};
 ghost use lib.ListN.{length};
+ghost use Rattle.writing.specs.Put.{Put};
 ghost use Rattle.pattern_buffer.specs.Valid.{isPattern};
+ghost use Rattle.pattern_texts.specs.Spelled.{textUnder};
 ghost use Rattle.pattern_writer.specs.Writer.{names, headerFits, written, roomFaults, testFaults, writeAnswer, textAfter};
 ghost use Rattle.pattern_writer.specs.Tested.{Tested, answerUnder, textUnderFaults};
 use answer::Answer;
 use pattern_header::HeaderAnswer;
 use pattern_header::read_header;
-use pattern_layout::put_pattern;
+use pattern_layout::put_beads;
 use text::lines::Line;
 use text::lines::read_line;
+use writing::put_bytes;
 
 // Is the line a header that names so many labels?
 fn names_labels(labels: u16, line: &[u8]) -> bool
@@ -36,6 +39,15 @@ fn header_fits(labels: u16, header: &[u8]) -> bool
             names_labels(labels, &header[..n])
         }
     }
+}
+
+// The output, from the front of a buffer, as far as there are places: the header text as it is, then the rows. Answers how long it is.
+fn put_pattern(out: &mut [u8], pattern: &[u16], header: &[u8]) -> usize
+    requires { ⌜ T (isPattern (now pattern)) ⌝ }
+    ensures { λ r. ⌜ Put (textUnder (now (header .entry)) (now (pattern .entry))) 0 (now (out .entry)) r (now (out .exit)) ⌝ }
+{
+    let next = put_bytes(out, 0, header);
+    put_beads(out, next, pattern)
 }
 
 // How long the output is: it is put into no place of the text buffer, which stays as it was.

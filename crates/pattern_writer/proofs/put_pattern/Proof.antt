@@ -1,8 +1,8 @@
 -- The header, then the rows.
-use Rattle.pattern_layout.proofs.RowLaws.{text-put}
+use Rattle.pattern_writer.proofs.WriteLaws.{text-put}
 use borrow.Author.Needs.{needs}
-use Rattle.pattern_layout.proofs.put_pattern.Statement.{statement}
-use Rattle.pattern_layout.proofs.put_pattern.Tie as tie
+use Rattle.pattern_writer.proofs.put_pattern.Statement.{statement}
+use Rattle.pattern_writer.proofs.put_pattern.Tie as tie
 
 put-bytes-requires : tie.Need-put-bytes-requires
 put-bytes-requires c κs = search needs
