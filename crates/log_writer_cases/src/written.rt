@@ -7,8 +7,7 @@ pub fn try_write(line: &[u8], text: &[u8], labels: u16, log: &[u16], kinds: &mut
     let mut buffer = [0u8; 70016];
     text_room::mark(&mut buffer);
     let a = call(line, labels, log, &mut buffer);
-    text_room::count_answer(a.number, kinds);
-    text_room::count_lent(trial::column(line, 3), kinds);
+    text_room::count_call(trial::column(line, 3), a.number, kinds);
     print_written(a, text, labels, &buffer, log, kinds);
 }
 
@@ -36,8 +35,7 @@ fn print_written(
     }
     let output = text_room::written(buffer, a.count);
     read_back(output, labels, log, kinds);
-    text_room::count_same(text, output, kinds);
-    text_room::print_compared(text, output);
+    text_room::print_compared(text, output, kinds);
 }
 
 // Reads with the label count that the writer was handed.

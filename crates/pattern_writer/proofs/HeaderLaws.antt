@@ -25,7 +25,7 @@ use Rattle.pattern_header.specs.Answers.{headerSaid, headerJudged}
 use Rattle.pattern_header.specs.declared.HeaderAnswer.{HeaderAnswer}
 use Rattle.pattern_header.specs.declared.HeaderAnswer.the-variants.{Labels, Refused}
 use Rattle.pattern_texts.specs.Spelled.{Heads}
-use Rattle.pattern_texts.proofs.RowTests.{and-true}
+use Rattle.sets.proofs.Truth.{both-true}
 use Rattle.pattern_writer.specs.Writer.{names, oneHeader, headerFits}
 
 -- ---- the line's fields
@@ -129,13 +129,13 @@ unfolding asLines joined
 parts-headed c [] e = let z : _≡_ {A = ℕ} 0 1 = cc in absurd (omega arith)
 parts-headed c ([] ∷ []) e = let z : _≡_ {A = ℕ} 0 1 = cc in absurd (omega arith)
 parts-headed c ((x ∷ p) ∷ []) e =
-    let w = and-true (whole 240 (record { bytes = x ∷ p; newline = false })) (names c (x ∷ p)) e in
-    let v = and-true (leb (length (x ∷ p)) 240) false (w .0) in
+    let w = both-true (whole 240 (record { bytes = x ∷ p; newline = false })) (names c (x ∷ p)) e in
+    let v = both-true (leb (length (x ∷ p)) 240) false (w .0) in
     let z : _≡_ {A = ℕ} 0 1 = cc in
     absurd (omega arith)
 parts-headed c (p ∷ ([] ∷ [])) e =
-    let w = and-true (whole 240 (record { bytes = p; newline = true })) (names c p) e in
-    let v = and-true (isHeader (split 32 p)) (eqb (labelCount (split 32 p)) c) (w .1) in
+    let w = both-true (whole 240 (record { bytes = p; newline = true })) (names c p) e in
+    let v = both-true (isHeader (split 32 p)) (eqb (labelCount (split 32 p)) c) (w .1) in
     record {
       line = p;
       ended = refl;

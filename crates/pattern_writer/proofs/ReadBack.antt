@@ -6,6 +6,7 @@ use mathlib.Core.Path.{_≡_, refl, sym, ap, _∙_}
 use mathlib.Core.Bool.{not}
 use mathlib.Core.List.{List, [], _∷_, _++_}
 use native.Mathlib.Omega.{arith}
+use borrow.Author.Tests.{not-false}
 use lib.Dec.{T, ltb}
 use lib.ListN.{length, getD, take, drop, length-take}
 use lib.Seq.{take-at, take-all, getD-take}
@@ -16,7 +17,6 @@ use Rattle.answer.specs.Faults.{when}
 use Rattle.answer.proofs.FaultLaws.{Passed, numbered, accepted-passed, passed-first, passed-others, answer-accepted, room-filled, passed-past, passed-all}
 use Rattle.text.specs.Walk.{Outcome, accepted}
 use Rattle.pattern_line.specs.Limits.{bufferLength}
-use Rattle.pattern_line.proofs.Lists.{undenied}
 use Rattle.pattern_store.specs.Format.{Known, patternText}
 use Rattle.pattern_store.specs.Buffer.{bufferOf}
 use Rattle.pattern.specs.Answer.{answerOf, filledBy, hostFaults, patternAnswer, patternAfter}
@@ -47,9 +47,9 @@ module _ (pattern header text : List ℕ) (a : T (accepts pattern header text)) 
       let p = passed-others (ltb (length pattern) bufferLength) (refusedAt 2 0) (testFaults b header text) passed in
       let q = passed-others (not (isPattern b)) (refusedAt 6 0) (when (not (headerFits (labelsIn b) header)) (refusedAt 12 1) ∷ roomFaults b header text) p in
       record {
-        is-pattern = true-yes (isPattern b) (undenied (isPattern b)
+        is-pattern = true-yes (isPattern b) (not-false (isPattern b)
             (passed-first (not (isPattern b)) (refusedAt 6 0) (when (not (headerFits (labelsIn b) header)) (refusedAt 12 1) ∷ roomFaults b header text) p));
-        fits = undenied (headerFits (labelsIn b) header)
+        fits = not-false (headerFits (labelsIn b) header)
             (passed-first (not (headerFits (labelsIn b) header)) (refusedAt 12 1) (roomFaults b header text) q);
       }
 

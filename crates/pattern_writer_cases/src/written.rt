@@ -7,8 +7,7 @@ pub fn try_write(line: &[u8], text: &[u8], header: &[u8], pattern: &[u16], kinds
     let mut buffer = [0u8; 70016];
     text_room::mark(&mut buffer);
     let a = call(line, header, pattern, &mut buffer);
-    text_room::count_answer(a.number, kinds);
-    text_room::count_lent(trial::column(line, 2), kinds);
+    text_room::count_call(trial::column(line, 2), a.number, kinds);
     print_written(a, text, &buffer, pattern, kinds);
 }
 
@@ -31,8 +30,7 @@ fn print_written(a: Answer, text: &[u8], buffer: &[u8], pattern: &[u16], kinds: 
     }
     let output = text_room::written(buffer, a.count);
     read_back(output, pattern, kinds);
-    text_room::count_same(text, output, kinds);
-    text_room::print_compared(text, output);
+    text_room::print_compared(text, output, kinds);
 }
 
 fn read_back(output: &[u8], pattern: &[u16], kinds: &mut [u64]) {

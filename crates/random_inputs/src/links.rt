@@ -1,4 +1,5 @@
 // The links into a step: one, or some with a drawn gap from each to the next.
+use crate::changes::reduced;
 use trial::Random;
 
 struct Way {
@@ -32,7 +33,7 @@ fn way_of(kind: u64, w: u16, x: u16) -> Way {
             most: 1,
         },
         1 => Way {
-            first: below(w, x),
+            first: reduced(x, w),
             gap: 1,
             most: 1,
         },
@@ -47,7 +48,7 @@ fn way_of(kind: u64, w: u16, x: u16) -> Way {
             most: 8,
         },
         _ => Way {
-            first: below(w, x),
+            first: reduced(x, w),
             gap: 1 + w as u64 / 4,
             most: 8,
         },
@@ -60,13 +61,6 @@ fn before(w: u16, d: u16) -> u16 {
         return 0;
     }
     w - d
-}
-
-fn below(w: u16, x: u16) -> u16 {
-    if w == 0 {
-        return 0;
-    }
-    x % w
 }
 
 // At most `most` links, all smaller than w.

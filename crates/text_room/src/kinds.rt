@@ -1,5 +1,6 @@
 // Cases counted by kind and by answer, the same for each writer; behind these a program has kinds of its own.
 use crate::bytes::is_same;
+use crate::bytes::sum_of_sums;
 use tallies::add;
 use tallies::add_if;
 
@@ -30,8 +31,10 @@ fn answer_place(number: u16) -> usize {
     }
 }
 
-pub fn count_answer(number: u16, kinds: &mut [u64]) {
+// Counts a call by its answer and by how much of the text room it was lent.
+pub fn count_call(settings: &[u8], number: u16, kinds: &mut [u64]) {
     add(kinds, answer_place(number), 1);
+    add_if(kinds, SHORTER, lent(settings) < 70000);
 }
 
 // A text that the reader refuses gives no room.
@@ -57,10 +60,6 @@ pub fn lent(settings: &[u8]) -> usize {
     n as usize
 }
 
-pub fn count_lent(settings: &[u8], kinds: &mut [u64]) {
-    add_if(kinds, SHORTER, lent(settings) < 70000);
-}
-
 // Does reading give the room's n numbers again?
 pub fn print_read(number: u16, room: &[u16], again: &[u16], n: u16, kinds: &mut [u64]) {
     let same = tallies::differing(room, 0, again, 0, n) == 0;
@@ -69,9 +68,28 @@ pub fn print_read(number: u16, room: &[u16], again: &[u16], n: u16, kinds: &mut 
     add_if(kinds, READ_BACK, same);
 }
 
-// Is it the text that gave the room?
-pub fn count_same(text: &[u8], output: &[u8], kinds: &mut [u64]) {
-    add_if(kinds, SAME_TEXT, is_same(text, output));
+// Is it the text that gave the room? Another text is printed where it has at most 128 bytes.
+pub fn print_compared(text: &[u8], output: &[u8], kinds: &mut [u64]) {
+    let same = is_same(text, output);
+    add_if(kinds, SAME_TEXT, same);
+    print_sum(output);
+    if same {
+        outcome::print_line(b", the text that was read");
+        return;
+    }
+    outcome::print_line(b", another text");
+    print_short(output);
+}
+
+fn print_sum(text: &[u8]) {
+    outcome::print_bytes(b", sum ");
+    outcome::print_number(sum_of_sums(text) as u64);
+}
+
+fn print_short(text: &[u8]) {
+    if text.len() <= 128 {
+        outcome::print_bytes(text);
+    }
 }
 
 // `names.txt` has the names of the kinds.

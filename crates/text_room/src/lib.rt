@@ -8,11 +8,10 @@ pub use bytes::is_same;
 pub use bytes::mark;
 pub use bytes::sum_of_sums;
 pub use kinds::change;
-pub use kinds::count_answer;
-pub use kinds::count_lent;
-pub use kinds::count_same;
+pub use kinds::count_call;
 pub use kinds::count_unread;
 pub use kinds::lent;
+pub use kinds::print_compared;
 pub use kinds::print_kinds;
 pub use kinds::print_read;
 
@@ -28,26 +27,4 @@ pub fn print_kept(count: u16, buffer: &[u8]) {
         b", rest kept",
         is_marked(buffer, 8 + count as usize, buffer.len()),
     );
-}
-
-// The sum of what was written, and whether it is the text that gave the room. Another text is printed where it has at most 128 bytes.
-pub fn print_compared(text: &[u8], output: &[u8]) {
-    print_sum(output);
-    if is_same(text, output) {
-        outcome::print_line(b", the text that was read");
-        return;
-    }
-    outcome::print_line(b", another text");
-    print_short(output);
-}
-
-fn print_sum(text: &[u8]) {
-    outcome::print_bytes(b", sum ");
-    outcome::print_number(sum_of_sums(text) as u64);
-}
-
-fn print_short(text: &[u8]) {
-    if text.len() <= 128 {
-        outcome::print_bytes(text);
-    }
 }

@@ -1,10 +1,9 @@
-// Pattern rooms.
-use crate::draws::reduced;
+// A room drawn, written, read back, changed and written again.
 use answer::Answer;
+use random_inputs::reduced;
 use tallies::add;
 use tallies::add_if;
 use trial::Random;
-use trial::get;
 
 const ROOMS: usize = 0;
 
@@ -112,9 +111,7 @@ fn change(
     let x = kind.next();
     let bit = x.next();
     let place = place_of(pattern, kind.below(4), x.below(65536) as u16);
-    let added = places::only(bit.below(6) as u16);
-    let old = get(pattern, place);
-    trial::put(pattern, place, std::num::wrapping_add_u16(old, added));
+    random_inputs::add_power(pattern, place, bit.below(6) as u16);
     write_changed(pattern, header, output, counts);
     bit
 }

@@ -1,30 +1,29 @@
-// Log rooms.
-use crate::draws::reduced;
+// A room drawn, written, read back, changed and written again.
 use answer::Answer;
+use random_inputs::reduced;
 use tallies::add;
 use tallies::add_if;
 use trial::Random;
-use trial::get;
 
-const ROOMS: usize = 11;
+const ROOMS: usize = 0;
 
-const BYTES: usize = 12;
+const BYTES: usize = 1;
 
-const REFUSED: usize = 13;
+const REFUSED: usize = 2;
 
-const UNREAD: usize = 14;
+const UNREAD: usize = 3;
 
-const DIFFERING: usize = 15;
+const DIFFERING: usize = 4;
 
-const CHANGED: usize = 16;
+const CHANGED: usize = 5;
 
-const SEVEN: usize = 17;
+const SEVEN: usize = 6;
 
-const OTHER_TEXT: usize = 18;
+const OTHER_TEXT: usize = 7;
 
-const SAME_TEXT: usize = 19;
+const SAME_TEXT: usize = 8;
 
-const OTHERWISE: usize = 20;
+const OTHERWISE: usize = 9;
 
 pub fn try_rooms(rooms: u64, counts: &mut [u64]) {
     let mut r = Random::new(4);
@@ -35,23 +34,19 @@ pub fn try_rooms(rooms: u64, counts: &mut [u64]) {
     }
 }
 
-// The trial's index says how the links are drawn, and about how many steps there are.
+// The trial's index says how many labels there are, about how many steps, and how the links are drawn.
 fn try_room(i: u64, from: Random, counts: &mut [u64]) -> Random {
     let mut log = [0u16; 7170];
-    let size = from.next();
-    let count = size.next();
-    let carried = count.next();
-    let steps = step_count(i % 8, size.below(65536) as u16);
-    let labels = 1 + count.below(16) as u16;
-    let r = random_inputs::draw_log(
-        &mut log,
-        steps,
-        labels,
-        i / 8 % 6,
-        carried.below(5),
-        carried,
-    );
+    let labels = 1 + (i / 48 % 16) as u16;
+    let r = draw_room(i, labels, &mut log, from);
     write_room(&mut log, labels, r, counts)
+}
+
+fn draw_room(i: u64, labels: u16, log: &mut [u16], from: Random) -> Random {
+    let size = from.next();
+    let carried = size.next();
+    let steps = step_count(i % 8, size.below(65536) as u16);
+    random_inputs::draw_log(log, steps, labels, i / 8 % 6, carried.below(5), carried)
 }
 
 // At most 3 steps, 257 to 512 steps, or up to 60.
@@ -102,9 +97,7 @@ fn change(log: &mut [u16], labels: u16, output: &[u8], from: Random, counts: &mu
     let x = kind.next();
     let bit = x.next();
     let place = place_of(log, kind.below(6), x.below(65536) as u16);
-    let added = places::only(bit.below(8) as u16);
-    let old = get(log, place);
-    trial::put(log, place, std::num::wrapping_add_u16(old, added));
+    random_inputs::add_power(log, place, bit.below(8) as u16);
     write_changed(log, labels, output, counts);
     bit
 }

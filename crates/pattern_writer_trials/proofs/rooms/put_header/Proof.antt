@@ -3,8 +3,8 @@ use mathlib.Core.Path.{_≡_}
 use lib.ListN.{length}
 use Prim.Native.Nat.{_-_}
 use borrow.Author.Needs.{needs}
-use Rattle.writer_trials.proofs.patterns.put_header.Statement.{statement}
-use Rattle.writer_trials.proofs.patterns.put_header.Tie as tie
+use Rattle.pattern_writer_trials.proofs.rooms.put_header.Statement.{statement}
+use Rattle.pattern_writer_trials.proofs.rooms.put_header.Tie as tie
 
 abbrev Inv-loop : tie.InvT-loop
 Inv-loop labels first header₀ n₀ i₀ header n i = length header ≡ length header₀
