@@ -142,6 +142,10 @@ calls =
     ∷ record { log = three-and-more; count = 16; room = 58; answer = acceptedWith 58 }
     ∷ []
 
+pub calls-count : length calls ≡ 13
+unfolding calls
+calls-count = refl
+
 -- 1 before 5, 5 before 7, 7 before 8; a room of just the text's length is accepted, one byte less is 8.
 pub ordered : map answered calls ≡ map (λ c. c .answer) calls
 unfolding calls firstFault answerOr

@@ -25,6 +25,7 @@ use Rattle.log_texts.specs.Spelled.{stepsOf}
 use Rattle.log_texts.proofs.LogBuffers.{text-says, steps-give}
 use Rattle.log_texts.proofs.LogText.{known}
 use Rattle.log_writer.specs.Writer.{logWritten, writeFaults, writeAnswer, textAfter, accepts, output}
+use Rattle.log_writer.specs.ReadBack.{ReadBack}
 use Rattle.log_writer.proofs.Fits.{text-fits}
 
 -- ---- a buffer that passes under a label count
@@ -69,15 +70,6 @@ same-text count a b few long-a long-b t u e =
     = sym (text-says count (take bufferLength a) few t) ∙ ap (logText count) e ∙ text-says count (take bufferLength b) few u in
     let k : known (stepsOf (take bufferLength a)) ≡ known (stepsOf (take bufferLength b)) = cc in
     sym (steps-back count a long-a t) ∙ ap (λ (m : Known). bufferOf (m .steps)) k ∙ steps-back count b long-b u
-
--- Reading the text under the label count gives the first 7,170 numbers of the log buffer.
-pub record ReadBack (log : List ℕ) (count : ℕ) (text : List ℕ) : Type 0 where
-  pub read : Known
-  pub reads : logText count text ≡ accepted read
-  pub gives : bufferOf (read .steps) ≡ take bufferLength log
-  -- Hence reading it fills any buffer of 7,170 numbers or more with the same 7,170 numbers.
-  pub answers : (buffer : List ℕ) → bufferLength ≤ length buffer → logAnswer text count buffer ≡ acceptedWith (length (read .steps))
-  pub fills : (buffer : List ℕ) → bufferLength ≤ length buffer → logAfter text count buffer ≡ take bufferLength log ++ drop bufferLength buffer
 
 -- ---- the tests that an accepted call passed
 

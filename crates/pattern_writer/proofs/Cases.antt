@@ -204,6 +204,10 @@ calls =
     ∷ writing 50
     ∷ map (λ h. refusing right h 99 (refusedAt 12 1)) faulty
 
+pub calls-count : length calls ≡ 26
+unfolding calls faulty
+calls-count = refl
+
 abbrev pub roomOf : Call → List ℕ
 roomOf c = replicate (c .room) 9
 
