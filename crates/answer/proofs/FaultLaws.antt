@@ -7,7 +7,7 @@ use mathlib.Core.Bool.{Bool, true, false, not, cond, _&&_, _||_}
 use mathlib.Core.Option.{Option, none, some}
 use mathlib.Core.List.{List, [], _∷_}
 use native.Mathlib.Omega.{arith}
-use borrow.Author.Tests.{lt-ltb, le-ltb, eqb-false}
+use borrow.Author.Tests.{lt-ltb, le-ltb, eqb-true, eqb-false}
 use lib.Dec.{T, eqb, ltb}
 use Rattle.answer.specs.declared.Answer.{Answer}
 use Rattle.answer.specs.Answers.{acceptedWith}
@@ -200,6 +200,24 @@ never-accepted (when test answer ∷ faults) last n f e = go test (eqb (answer .
     go b true z m u rest = absurd (subst T (sym m) tt)
     go true false z m u rest = eqb-false (answer .number) 0 z u
     go false false z m u rest = rest m u
+
+-- ---- a call whose refusals have no place
+
+-- Each refusal's byte is 0.
+unfoldable pub placeless : List Fault → Bool
+placeless [] = true
+placeless (when test answer ∷ faults) = eqb (answer .byte) 0 && placeless faults
+
+pub no-byte : (faults : List Fault) (accepted : Answer) → placeless faults ≡ true → accepted .byte ≡ 0 → answerOr (firstFault faults) accepted .byte ≡ 0
+unfolding placeless firstFault answerOr
+no-byte [] accepted p e = e
+no-byte (when test answer ∷ faults) accepted p e = go test (eqb (answer .byte) 0) refl p (λ q. no-byte faults accepted q e)
+  where
+    go : (b z : Bool) → eqb (answer .byte) 0 ≡ z → (z && placeless faults) ≡ true → (placeless faults ≡ true → answerOr (firstFault faults) accepted .byte ≡ 0)
+        → answerOr (cond b (some answer) (firstFault faults)) accepted .byte ≡ 0
+    go b false q m rest = absurd (subst T (sym m) tt)
+    go true true q m rest = eqb-true (answer .byte) 0 q
+    go false true q m rest = rest m
 
 module _ (test : Bool) (answer : Answer) (faults : List Fault) (p : Passed (when test answer ∷ faults)) where
   -- Who passes all tests passes the first, and the others.

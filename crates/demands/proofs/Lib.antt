@@ -4,3 +4,4 @@ pub mod Whole
 pub mod Cases
 pub mod CasesOfPasts
 pub mod Promise
+pub mod Bytes

@@ -21,13 +21,13 @@ use Rattle.fields.proofs.PlaceLaws.{start-next, part-there, part-inside
 
 -- ---- how long the first field is
 
-first-empty : (b : ℕ) → firstPart b [] ≡ []
+pub first-empty : (b : ℕ) → firstPart b [] ≡ []
 first-empty b = ap (λ (ps : List (List ℕ)). getD ps 0 []) (split-empty b)
 
-first-at : (b x : ℕ) (xs : List ℕ) → x ≡ b → firstPart b (x ∷ xs) ≡ []
+pub first-at : (b x : ℕ) (xs : List ℕ) → x ≡ b → firstPart b (x ∷ xs) ≡ []
 first-at b x xs e = ap (λ (ps : List (List ℕ)). getD ps 0 []) (split-at b x xs e)
 
-first-on : (b x : ℕ) (xs : List ℕ) → (x ≡ b → ⊥) → firstPart b (x ∷ xs) ≡ x ∷ firstPart b xs
+pub first-on : (b x : ℕ) (xs : List ℕ) → (x ≡ b → ⊥) → firstPart b (x ∷ xs) ≡ x ∷ firstPart b xs
 first-on b x xs n =
     let s = split-some b xs in
     ap (λ (ps : List (List ℕ)). getD ps 0 []) (split-on b x xs n ∙ ap (prepend x) (s .2))

@@ -74,7 +74,7 @@ fn read_log(script: &[u8], labels: u16, log: &mut [u16]) -> Answer {
 
 // The refusal of a reader whose buffer was all marks.
 fn print_refused(who: &[u8], a: Answer, buffer: &[u16]) -> u16 {
-    outcome::print_call(who, a.number, a.line, a.count, buffer);
+    outcome::print_call(who, a.number, a.line, a.byte, a.count, buffer);
     a.number
 }
 
@@ -99,7 +99,7 @@ fn judge(settings: &[u8], pattern: &[u16], log: &[u16]) -> u16 {
 }
 
 fn print_judged(a: Answer, steps: u16, result: &[u16], work: &[u16]) {
-    outcome::print_answer(b": judge", a.number, a.line, a.count);
+    outcome::print_answer(b": judge", a.number, a.line, a.byte, a.count);
     if a.number > 0 {
         kept::print_unchanged(result, work);
     } else {

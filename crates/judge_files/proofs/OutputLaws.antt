@@ -68,10 +68,10 @@ module _ (patternText logText pattern log result work pattern′ log′ result�
       subst (λ (l : List ℕ). length (headerText ++ rowLines (getD pattern′ 1 0) (getD log′ 0 0) l) ≤ 55319) (sym (j .left)) fits in
       rw (eq-eqb _ _ z) (front (headerText ++ rowLines (getD pattern′ 1 0) (getD log′ 0 0) result′) old new n w (omega arith))
 
-pub refusal-out : (old new result : List ℕ) (r : Answer) (beads steps n : ℕ) → (r .number ≡ 0 → ⊥) → r .number < 65536 → r .line < 65536
+pub refusal-out : (old new result : List ℕ) (r : Answer) (beads steps n : ℕ) → (r .number ≡ 0 → ⊥) → r .number < 65536 → r .line < 65536 → r .byte < 65536
     → Put (refusalText r) 0 old n new → length old ≡ 65536 → AtFront (outputText r beads steps result) old n new
-refusal-out old new result r beads steps n h f g w e =
-    let short = refusal-fits r f g in
+refusal-out old new result r beads steps n h f g b w e =
+    let short = refusal-fits r f g b in
     rw (ne-eqb _ _ h) (front (refusalText r) old new n w (omega arith))
 
 pub ruleset kit = (rows-room, rows-out, refusal-out)

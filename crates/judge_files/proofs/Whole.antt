@@ -17,8 +17,7 @@ use Rattle.log_line.specs.Limits.{mostText as logMost}
 use Rattle.pattern_store.specs.Format.{patternText}
 use Rattle.log_line.specs.Format.{logText}
 use Rattle.pattern.specs.Answer.{hostFaults as patternFaults, answerOf, patternAnswer}
-use Rattle.log.specs.Answer.{hostFaults as logFaults, logAnswer}
-use Rattle.log_walk.specs.Filled.{answerOf as answerOfLog}
+use Rattle.log.specs.Answer.{hostFaults as logFaults, textAnswer, logAnswer}
 use Rattle.judge_files.specs.Files.{PatternRead, LogRead}
 
 -- A text that fills its buffer has a bad size.
@@ -30,11 +29,11 @@ filled text most size e h g =
 -- The text of a bad size is refused, whatever the host's tests say.
 pattern-refused : (t pattern : List ℕ) → badSize patternMost t ≡ true → patternAnswer t pattern .number ≡ 0 → ⊥
 unfolding numbered
-pattern-refused t pattern e = never-accepted (patternFaults pattern) (answerOf (patternText t)) refl (rw e (λ z. absurd (omega arith)))
+pattern-refused t pattern e = never-accepted (patternFaults pattern) (answerOf t (patternText t)) refl (rw e (λ z. absurd (omega arith)))
 
 log-refused : (t log : List ℕ) (labels : ℕ) → badSize logMost t ≡ true → logAnswer t labels log .number ≡ 0 → ⊥
 unfolding numbered
-log-refused t log labels e = never-accepted (logFaults labels log) (answerOfLog (logText labels t)) refl (rw e (λ z. absurd (omega arith)))
+log-refused t log labels e = never-accepted (logFaults labels log) (textAnswer t (logText labels t)) refl (rw e (λ z. absurd (omega arith)))
 
 -- A text that is not of a bad size left a place free.
 free : (text : List ℕ) (most size : ℕ) → length text ≡ suc most → size ≤ length text → (badSize most (take size text) ≡ true → ⊥) → size < length text

@@ -1,2 +1,3 @@
 pub mod Tables
 pub mod Places
+pub mod Leftmost

@@ -1,2 +1,3 @@
 pub mod TextLaws
 pub mod Refused
+pub mod Stays

@@ -12,7 +12,6 @@ use lib.Dec.{T, eqb, ltb}
 use lib.ListN.{length}
 use Rattle.sets.proofs.Truth.{yes-true, true-yes, no-false, false-no}
 use Rattle.answer.specs.declared.Answer.{Answer}
-use Rattle.answer.specs.Answers.{refusedAt}
 use Rattle.answer.specs.Faults.{firstFault, answerOr, keptOr}
 use Rattle.text.specs.Split.{split}
 use Rattle.text.specs.Lines.{TextLine, linesOf, whole}
@@ -23,8 +22,9 @@ use Rattle.log_line.specs.Limits.{mostText, mostLine, bufferLength}
 use Rattle.log_line.specs.Header.{columnsOf, isHeader}
 use Rattle.log_line.specs.Step.{Step, stepOf, stepAt, malformed, misnumbered, mislinked, mislabelled, overLimit}
 use Rattle.log_line.specs.Format.{Known, judgeValues, judgeStep, judgeLine, logFormat, conclude, logText}
-use Rattle.log_walk.specs.Filled.{answerOf, filledBy}
-use Rattle.log.specs.Answer.{badCount, logAnswer, logAfter}
+use Rattle.log_walk.specs.Filled.{filledBy}
+use Rattle.log_byte.specs.Byte.{logByte}
+use Rattle.log.specs.Answer.{badCount, refusedWith, textAnswer, logAnswer, logAfter}
 use Rattle.log.specs.Refused.{Called, Readable, LinesPass, Refused, short, labels, size, line, nothing}
 use Rattle.log.specs.Promise.{Promise, refused as refused-so, accepted as accepted-so}
 
@@ -71,8 +71,8 @@ module _ (count : ℕ) where
 
 module _ (text : List ℕ) (count : ℕ) (buffer : List ℕ) where
   module _ (h : length buffer < bufferLength) where
-    short-answer : logAnswer text count buffer ≡ refusedAt 1 0
-    unfolding firstFault answerOr
+    short-answer : logAnswer text count buffer ≡ refusedWith text 1 0
+    unfolding firstFault answerOr logByte
     short-answer = rw (lt-ltb (length buffer) bufferLength h) refl
 
     short-after : logAfter text count buffer ≡ buffer
@@ -80,8 +80,8 @@ module _ (text : List ℕ) (count : ℕ) (buffer : List ℕ) where
     short-after = rw (lt-ltb (length buffer) bufferLength h) refl
 
   module _ (long : bufferLength ≤ length buffer) (t : T (badCount count)) where
-    count-answer : logAnswer text count buffer ≡ refusedAt 5 0
-    unfolding firstFault answerOr
+    count-answer : logAnswer text count buffer ≡ refusedWith text 5 0
+    unfolding firstFault answerOr logByte
     count-answer = rw (le-ltb (length buffer) bufferLength long, yes-true (badCount count) t) refl
 
     count-after : logAfter text count buffer ≡ buffer
@@ -89,7 +89,7 @@ module _ (text : List ℕ) (count : ℕ) (buffer : List ℕ) where
     count-after = rw (le-ltb (length buffer) bufferLength long, yes-true (badCount count) t) refl
 
   module _ (called : Called count buffer) where
-    called-answer : logAnswer text count buffer ≡ answerOf (logText count text)
+    called-answer : logAnswer text count buffer ≡ textAnswer text (logText count text)
     unfolding firstFault answerOr
     called-answer = rw (le-ltb (length buffer) bufferLength (called .long), no-false (badCount count) (called .counted)) refl
 
@@ -97,8 +97,8 @@ module _ (text : List ℕ) (count : ℕ) (buffer : List ℕ) where
     unfolding firstFault keptOr
     called-after = rw (le-ltb (length buffer) bufferLength (called .long), no-false (badCount count) (called .counted)) refl
 
-    said-answer : (number at : ℕ) → logText count text ≡ faulty number at → logAnswer text count buffer ≡ refusedAt number at
-    said-answer number at e = called-answer ∙ ap answerOf e
+    said-answer : (number at : ℕ) → logText count text ≡ faulty number at → logAnswer text count buffer ≡ refusedWith text number at
+    said-answer number at e = called-answer ∙ ap (textAnswer text) e
 
     said-after : (number at : ℕ) → logText count text ≡ faulty number at → logAfter text count buffer ≡ buffer
     said-after number at e = called-after ∙ ap (λ (o : Outcome Known). filledBy o buffer) e
@@ -125,7 +125,7 @@ module _ (text : List ℕ) (count : ℕ) (buffer : List ℕ) where
   walk-all : (k : Known) → lines ≡ accepted k ↔ LinesPass text count k
   walk-all k = walk-accepts (judgeLine count) (logFormat count .start) k 1 (linesOf text)
 
-  answers : (number at : ℕ) → Refused text count buffer number at → logAnswer text count buffer ≡ refusedAt number at
+  answers : (number at : ℕ) → Refused text count buffer number at → logAnswer text count buffer ≡ refusedWith text number at
   answers number at (short h) = short-answer h
   answers number at (labels l t) = count-answer l t
   answers number at (size c t) = said-answer c number at (size-said t)
@@ -162,7 +162,7 @@ module _ (text : List ℕ) (count : ℕ) (buffer : List ℕ) where
 
       accept : Called count buffer → (k : Known) → LinesPass text count k → logText count text ≡ accepted k → Promised
       accept c k p e =
-          let counts = called-answer c ∙ ap answerOf e in
+          let counts = called-answer c ∙ ap (textAnswer text) e in
           accepted-so (none (ap (λ (a : Answer). a .number) counts))
           (record { known = k; lines = p; counts = counts; fills = called-after c ∙ ap (λ (o : Outcome Known). filledBy o buffer) e })
 
@@ -185,18 +185,18 @@ module _ (text : List ℕ) (count : ℕ) (buffer : List ℕ) where
       host false x false y false z =
           walks (record { called = right x y; sized = false-no (badSize mostText text) z }) lines refl
 
-  refused-by : (number at : ℕ) → logAnswer text count buffer ≡ refusedAt number at → (number ≡ 0 → ⊥) → Refused text count buffer number at
+  refused-by : (number at : ℕ) → logAnswer text count buffer ≡ refusedWith text number at → (number ≡ 0 → ⊥) → Refused text count buffer number at
   refused-by number at e n = go log-promise
     where
       go : Promised → Refused text count buffer number at
       go (accepted-so f a) = absurd (n (ap (λ (x : Answer). x .number) (sym e ∙ a .counts)))
       go (refused-so m i r f k) =
-          let q : refusedAt m i ≡ refusedAt number at = sym f ∙ e in
+          let q : refusedWith text m i ≡ refusedWith text number at = sym f ∙ e in
           subst (λ (x : ℕ). Refused text count buffer x at) (ap (λ (a : Answer). a .number) q)
           (subst (λ (y : ℕ). Refused text count buffer m y) (ap (λ (a : Answer). a .line) q) r)
 
   -- A refusal is given if its text in document 01 applies, and only then.
-  pub log-refused : (number at : ℕ) → (logAnswer text count buffer ≡ refusedAt number at) × (number ≡ 0 → ⊥) ↔ Refused text count buffer number at
+  pub log-refused : (number at : ℕ) → (logAnswer text count buffer ≡ refusedWith text number at) × (number ≡ 0 → ⊥) ↔ Refused text count buffer number at
   log-refused number at = (λ p. refused-by number at (p .0) (p .1), λ r. (answers number at r, numbers number at r))
 
   -- A call is accepted just where no refusal applies.

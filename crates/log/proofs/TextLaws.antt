@@ -1,6 +1,6 @@
 -- A whole text: its size, its first line, and the host's faults before all.
 -- Assumes nothing.
-use mathlib.Core.Path.{_≡_, sym, ap, _∙_}
+use mathlib.Core.Path.{_≡_, refl, sym, ap, _∙_}
 use mathlib.Core.Bool.{true}
 use mathlib.Core.List.{List, []}
 use Prim.Native.Nat.{ℕ, _+_, _-_, _^_, _≤_, _<_}
@@ -9,10 +9,10 @@ use borrow.Author.Tests.{lt-ltb, le-ltb}
 use lib.ListN.{length, take, drop}
 use lib.Seq.{length-take-le}
 use Rattle.answer.specs.declared.Answer.{Answer}
-use Rattle.answer.specs.Answers.{refusedAt}
+use Rattle.answer.specs.Answers.{refusedAt, refusedIn}
 use Rattle.text.specs.Split.{split}
 use Rattle.text.specs.Lines.{linesOf, lineOf}
-use Rattle.text.specs.Walk.{Outcome, faulty, walk, readText}
+use Rattle.text.specs.Walk.{Outcome, accepted, faulty, walk, readText}
 use Rattle.text.specs.declared.lines.LineFault.{LineFault}
 use Rattle.text.specs.declared.lines.Line.{Line}
 use Rattle.text.specs.declared.lines.Line.the-variants.{Whole, Broken}
@@ -21,7 +21,8 @@ use Rattle.text.proofs.WalkLaws.{size-empty, size-over, size-right, text-broken
 use Rattle.log_line.specs.Header.{columnsOf}
 use Rattle.log_line.specs.Format.{Known, judgeHeader, judgeLine, logFormat, conclude, logText}
 use Rattle.log_line.specs.Answers.{refusalNumber, headerNumber, headerValues, orderOf, headerSays}
-use Rattle.log.specs.Answer.{logAnswer, logAfter}
+use Rattle.log_byte.specs.Byte.{logByte}
+use Rattle.log.specs.Answer.{textAnswer, logAnswer, logAfter}
 use Rattle.log_walk.specs.Filled.{answerOf, filledBy}
 use Rattle.log_walk.specs.Reading.{stepsRead}
 use Rattle.log_store.specs.Stores.{knowing}
@@ -147,3 +148,30 @@ pub ruleset text-kit = (
   steps-answered,
   steps-filled,
 )
+
+-- ---- a refusal with its byte
+
+module _ (text : List ℕ) (o : Outcome Known) (a : Answer) (said : a ≡ answerOf o) where
+  pub placed-none : a .number ≡ 0 → a ≡ textAnswer text o
+  unfolding logByte
+  placed-none z = go o said
+    where
+      no-byte : (line : ℕ) → logByte text 0 line ≡ 0
+      no-byte line = refl
+
+      go : (p : Outcome Known) → a ≡ answerOf p → a ≡ textAnswer text p
+      go (accepted k) e = e
+      go (faulty number line) e =
+          let n : number ≡ 0 = sym (ap (λ (x : Answer). x .number) e) ∙ z in
+          e ∙ sym (ap (refusedIn number line) (ap (λ (m : ℕ). logByte text m line) n ∙ no-byte line))
+
+  pub placed-at : (a .number ≡ 0 → ⊥) → (b : ℕ) → b ≡ logByte text (a .number) (a .line) → (r : Answer) → r ≡ refusedIn (a .number) (a .line) b → r ≡ textAnswer text o
+  placed-at n b e r q = go o said
+    where
+      go : (p : Outcome Known) → a ≡ answerOf p → r ≡ textAnswer text p
+      go (accepted k) f = absurd (n (ap (λ (x : Answer). x .number) f))
+      go (faulty number line) f =
+          q ∙ ap (refusedIn (a .number) (a .line)) e
+          ∙ ap (λ (x : Answer). refusedIn (x .number) (x .line) (logByte text (x .number) (x .line))) f
+
+pub ruleset placed-kit = (placed-none, placed-at)

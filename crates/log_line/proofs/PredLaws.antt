@@ -3,7 +3,7 @@
 use mathlib.Core.Path.{_≡_, refl, sym, ap, _∙_}
 use mathlib.Core.Bool.{Bool, true, false, not, cond, _&&_, _||_, and-true, and-false}
 use mathlib.Core.List.{List, [], _∷_, _++_, map, append-nil, append-assoc}
-use Prim.Native.Nat.{ℕ, _+_, _-_, _≤_, _<_}
+use Prim.Native.Nat.{ℕ, _+_, _-_, _*_, _^_, _≤_, _<_}
 use native.Mathlib.Omega.{arith}
 use native.Mathlib.Numerals.{add-one}
 use borrow.Author.Tests.{le-leb, lt-leb, lt-ltb, le-ltb, eq-eqb, ne-eqb, ltb-true, ltb-false}
@@ -12,33 +12,46 @@ use lib.ListN.{length, take, drop, set, length-map, length-append}
 use lib.Seq.{take-suc-set, length-take-le, set-out}
 use Rattle.numbers.proofs.ListedLaws.{areNumbers-none, areNumbers-first}
 use Rattle.text.specs.Split.{split, firstPart}
-use Rattle.numbers.specs.Numbers.{numberOf, isNumber, valueOf}
-use Rattle.numbers.specs.declared.Number.{Number}
-use Rattle.numbers.specs.declared.Number.the-variants.{Value, Malformed}
+use Rattle.text.proofs.SplitLaws.{first-is}
+use Rattle.lists.proofs.Parts.{rest-part}
+use Rattle.numbers.specs.Numbers.{isNumber, valueOf, firstRead}
+use Rattle.numbers.specs.declared.NumberRead.{NumberRead}
+use Rattle.numbers.specs.declared.NumberRead.the-variants.{Ended, Stopped}
 use Rattle.fields.proofs.FieldLaws.{count-some}
 use Rattle.numbers.specs.Listed.{isNone, listOf, areNumbers}
 use Rattle.log_line.specs.Step.{risingBelow, mislinked}
 use Rattle.log_line.specs.Scan.{Scanned, scanEnd}
 use Rattle.log_line.specs.declared.preds.PredScan.{PredScan}
-use Rattle.fields.proofs.PartLaws.{partsFrom, parts-all, parts-none, parts-step, part-kit}
-use Rattle.numbers.proofs.ValueLaws.{not-number, is-number, value-some}
+use Rattle.fields.proofs.PartLaws.{partsFrom, parts-all, parts-none, parts-step, part-in, part-fits, next-fits, next-in, rest-falls}
+use Rattle.numbers.proofs.ValueLaws.{stopped-none, ended-number, ended-value, ended-stop}
 
 -- ---- every part a number
 
 pub numbers-start : (l : List ℕ) → areNumbers (split 44 l) ≡ areNumbers (partsFrom 44 l 0)
 numbers-start l = ap areNumbers (parts-all 44 l)
 
-module _ (l : List ℕ) (at : ℕ) (inv : areNumbers (split 44 l) ≡ areNumbers (partsFrom 44 l at)) where
-  module _ (n : ℕ) (inside : at ≤ length l) (given : n ≡ length (firstPart 44 (take (length l - at) (drop at l))))
-      (r : Number) (said : r ≡ numberOf (take (at + n - at) (drop at l))) where
-    here : areNumbers (split 44 l) ≡ (isNumber (take (at + n - at) (drop at l)) && areNumbers (partsFrom 44 l (at + n + 1)))
-    here = inv ∙ ap areNumbers (parts-step 44 l at n inside given) ∙ areNumbers-first _ _
+-- What is read from the place on, as it is lent.
+abbrev lent : List ℕ → ℕ → List ℕ
+lent l at = take (length l - at) (drop at l)
 
-    pub numbers-bad : r ≡ Malformed → false ≡ areNumbers (split 44 l)
-    numbers-bad p = sym (here ∙ rw (← not-number _ r said p))
+-- The first part of it.
+lent-part : (l : List ℕ) (at n : ℕ) → n ≡ length (firstPart 44 (lent l at)) → firstPart 44 (lent l at) ≡ take (at + n - at) (drop at l)
+lent-part l at n given =
+    let e : at + n - at ≡ n = omega arith in
+    first-is 44 (lent l at) ∙ ap (λ (k : ℕ). take k (lent l at)) (sym given) ∙ ap (take n) (rest-part l at) ∙ ap (λ (k : ℕ). take k (drop at l)) (sym e)
 
-    pub numbers-more : (v : ℕ) → r ≡ Value v → areNumbers (split 44 l) ≡ areNumbers (partsFrom 44 l (at + n + 1))
-    numbers-more v p = here ∙ rw (← is-number _ r said v p)
+module _ (l : List ℕ) (at : ℕ) (inv : areNumbers (split 44 l) ≡ areNumbers (partsFrom 44 l at)) (inside : at ≤ length l)
+    (r : NumberRead) (said : r ≡ firstRead 44 (take (length l - at) (drop at l))) where
+  here : (n : ℕ) → n ≡ length (firstPart 44 (lent l at)) → areNumbers (split 44 l) ≡ (isNumber (firstPart 44 (lent l at)) && areNumbers (partsFrom 44 l (at + n + 1)))
+  here n given =
+      inv ∙ ap areNumbers (parts-step 44 l at n inside given) ∙ areNumbers-first _ _
+      ∙ ap (λ (f : List ℕ). isNumber f && areNumbers (partsFrom 44 l (at + n + 1))) (sym (lent-part l at n given))
+
+  pub numbers-bad : (stop : ℕ) → r ≡ Stopped stop → false ≡ areNumbers (split 44 l)
+  numbers-bad stop p = sym (here (length (firstPart 44 (lent l at))) refl ∙ rw (← stopped-none 44 (lent l at) r said stop p))
+
+  pub numbers-more : (v n : ℕ) → r ≡ Ended v n → areNumbers (split 44 l) ≡ areNumbers (partsFrom 44 l (at + n + 1))
+  numbers-more v n p = here n (ended-stop 44 (lent l at) r said v n p) ∙ rw (← ended-number 44 (lent l at) r said v n p)
 
 -- ---- rising, and below v
 
@@ -154,29 +167,50 @@ scan-start v l preds = record {
 }
 
 module _ (v : ℕ) (l : List ℕ) (at k low : ℕ) (rising : Bool) (preds : List ℕ) (s : Scanning v l at k low rising preds) where
-  module _ (n : ℕ) (inside : at ≤ length l) (given : n ≡ length (firstPart 44 (take (length l - at) (drop at l))))
-      (r : Number) (said : r ≡ numberOf (take (at + n - at) (drop at l))) where
-    pub scan-bad : r ≡ Malformed → false ≡ areNumbers (split 44 l)
-    scan-bad p = numbers-bad l at (s .numbered) n inside given r said p
+  module _ (inside : at ≤ length l) (r : NumberRead) (said : r ≡ firstRead 44 (take (length l - at) (drop at l))) where
+    pub scan-bad : (stop : ℕ) → r ≡ Stopped stop → false ≡ areNumbers (split 44 l)
+    scan-bad stop p = numbers-bad l at (s .numbered) inside r said stop p
 
-    module _ (u : ℕ) (p : r ≡ Value u) (size : length preds ≡ 8) (new : List ℕ) (put : new ≡ set preds k u) where
+    module _ (u n : ℕ) (p : r ≡ Ended u n) where
+      given : n ≡ length (firstPart 44 (take (length l - at) (drop at l)))
+      given = ended-stop 44 (lent l at) r said u n p
+
+      pub part-ends : at + n ≤ length l
+      part-ends = part-in 44 l at n inside given
+
+      pub place-fits : length l < 2 ^ 64 → at + n < 2 ^ 64
+      place-fits h = part-fits 44 l at n inside given h
+
+      pub place-next-fits : length l * 1 < 2 ^ 63 → at + n + 1 < 2 ^ 64
+      place-next-fits h = next-fits 44 l at n inside given h
+
+      pub place-in : at + n + 1 ≤ length l + 1
+      place-in = next-in 44 l at n inside given
+
+      pub place-falls : length l + 1 - (at + n + 1) < length l + 1 - at
+      place-falls = rest-falls 44 l at n inside given
+
+    module _ (u n : ℕ) (p : r ≡ Ended u n) (size : length preds ≡ 8) (new : List ℕ) (put : new ≡ set preds k u) where
+      is-part : n ≡ length (firstPart 44 (take (length l - at) (drop at l)))
+      is-part = given u n p
+
       value : u ≡ valueOf (take (at + n - at) (drop at l))
-      value = value-some _ r said u p
+      value = ended-value 44 (lent l at) r said u n p ∙ ap valueOf (lent-part l at n is-part)
 
       more : length (split 44 l) ≡ k + 1 + length (partsFrom 44 l (at + n + 1))
-      more = let c = s .counts in let e = ap length (parts-step 44 l at n inside given) in omega arith
+      more = let c = s .counts in let e = ap length (parts-step 44 l at n inside is-part) in omega arith
 
       there-stored : length (split 44 l) ≤ 8 → map valueOf (split 44 l) ≡ take (k + 1) new ++ numbersFrom l (at + n + 1)
       there-stored few =
           let m = more in
-          rw put (stored-more l at k preds (s .kept few) size few (omega arith) n inside given u value)
+          rw put (stored-more l at k preds (s .kept few) size few (omega arith) n inside is-part u value)
 
       rises-here : risingBelow v (map valueOf (split 44 l)) ≡ (rising && risingFrom v low (u ∷ numbersFrom l (at + n + 1)))
-      rises-here = s .rises ∙ ap (λ (us : List ℕ). rising && risingFrom v low us) (numbers-step l at n inside given ∙ ap (λ (x : ℕ). x ∷ numbersFrom l (at + n + 1)) (sym value))
+      rises-here = s .rises ∙ ap (λ (us : List ℕ). rising && risingFrom v low us) (numbers-step l at n inside is-part ∙ ap (λ (x : ℕ). x ∷ numbersFrom l (at + n + 1)) (sym value))
 
       pub scan-low : u < low → Scanning v l (at + n + 1) (k + 1) low false new
       scan-low h = record {
-        numbered = numbers-more l at (s .numbered) n inside given r said u p;
+        numbered = numbers-more l at (s .numbered) inside r said u n p;
         rises = rises-here ∙ ap (λ (t : Bool). rising && t) (rising-low v low u _ h) ∙ and-false rising;
         counts = more;
         kept = there-stored;
@@ -184,7 +218,7 @@ module _ (v : ℕ) (l : List ℕ) (at k low : ℕ) (rising : Bool) (preds : List
 
       pub scan-high : low ≤ u → v ≤ u → Scanning v l (at + n + 1) (k + 1) low false new
       scan-high h j = record {
-        numbered = numbers-more l at (s .numbered) n inside given r said u p;
+        numbered = numbers-more l at (s .numbered) inside r said u n p;
         rises = rises-here ∙ ap (λ (t : Bool). rising && t) (rising-high v low u _ h j) ∙ and-false rising;
         counts = more;
         kept = there-stored;
@@ -192,7 +226,7 @@ module _ (v : ℕ) (l : List ℕ) (at k low : ℕ) (rising : Bool) (preds : List
 
       pub scan-next : low ≤ u → u < v → Scanning v l (at + n + 1) (k + 1) (u + 1) rising new
       scan-next h j = record {
-        numbered = numbers-more l at (s .numbered) n inside given r said u p;
+        numbered = numbers-more l at (s .numbered) inside r said u n p;
         rises = rises-here ∙ ap (λ (t : Bool). rising && t) (rising-step v low u _ h j);
         counts = more;
         kept = there-stored;
@@ -243,7 +277,19 @@ scan-malformed v l preds some size e = record {
   stored = λ z few. let y : _≡_ {A = ℕ} 0 1 = cc in absurd (omega arith);
 }
 
-pub ruleset scanning-kit = (scan-start, scan-bad, scan-low, scan-high, scan-next, scan-end, scan-malformed, part-kit)
+pub ruleset scanning-kit = (
+  scan-start,
+  scan-bad,
+  place-fits,
+  place-next-fits,
+  place-in,
+  place-falls,
+  scan-low,
+  scan-high,
+  scan-next,
+  scan-end,
+  scan-malformed,
+)
 
 -- ---- `-`
 

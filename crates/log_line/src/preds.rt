@@ -4,9 +4,8 @@ ghost use mathlib.Core.Bool.{false};
 ghost use lib.ListN.{length, set};
 ghost use Rattle.numbers.specs.Listed.{isNone};
 ghost use Rattle.log_line.specs.Scan.{Scanned, scanEnd};
-use fields::first_length;
 use fields::same;
-use numbers::Number;
+use numbers::NumberRead;
 use numbers::read_number;
 
 // What the field comes to for a step: is it `-` or numbers joined by commas? If so, are the links wrong (24), and how many are there?
@@ -33,7 +32,7 @@ fn keep(preds: &mut [u16; 8], k: usize, u: u16)
     }
 }
 
-// The numbers of the field for step v, in one pass. The first 8 are stored.
+// The numbers of the field for step v, in one pass that goes on where reading a number stopped. The first 8 are stored.
 fn scan_numbers(field: &[u8], v: u16, preds: &mut [u16; 8]) -> PredScan
     requires { ⌜ (isNone (now field) ≡ false) × (length (now preds) ≡ 8) ⌝ }
     ensures { λ r. ⌜ Scanned v (now (field .entry)) r (now (preds .exit)) ⌝ }
@@ -43,19 +42,17 @@ fn scan_numbers(field: &[u8], v: u16, preds: &mut [u16; 8]) -> PredScan
     let mut low: u16 = 0;
     let mut rising = true;
     while at <= field.len() {
-        let n = first_length(&field[at..], 44);
-        let e = at + n;
-        match read_number(&field[at..e]) {
-            Number::Malformed => {
+        match read_number(&field[at..], 44) {
+            NumberRead::Stopped(_) => {
                 return PredScan {
                     formed: false,
                     mislinked: false,
                     count: 0,
                 };
             }
-            Number::Value(u) => {
+            NumberRead::Ended(u, n) => {
                 keep(preds, k, u);
-                at = e + 1;
+                at = at + n + 1;
                 k += 1;
                 if u < low {
                     rising = false;

@@ -9,7 +9,7 @@ use Rattle.log_line.specs.Limits.{bufferLength}
 use Rattle.log_line.specs.Format.{Known}
 use Rattle.log_store.specs.Buffer.{bufferOf}
 
--- The answer: accepted with the step count, or the refusal's number and line.
+-- The answer but for its byte, as document 01 had it: accepted with the step count, or the refusal's number and line.
 abbrev pub answerOf : Outcome Known → Answer
 answerOf (accepted k) = acceptedWith (length (k .steps))
 answerOf (faulty number line) = refusedAt number line

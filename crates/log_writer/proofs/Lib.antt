@@ -2,3 +2,4 @@ pub mod Fits
 pub mod CallLaws
 pub mod ReadBack
 pub mod Cases
+pub mod Bytes

@@ -17,8 +17,8 @@ use Rattle.text.specs.Walk.{Outcome, accepted}
 use Rattle.log_line.specs.Limits.{mostLabels, bufferLength}
 use Rattle.log_line.specs.Format.{Known, logText}
 use Rattle.log_store.specs.Buffer.{bufferOf}
-use Rattle.log_walk.specs.Filled.{answerOf, filledBy}
-use Rattle.log.specs.Answer.{hostFaults, logAnswer, logAfter}
+use Rattle.log_walk.specs.Filled.{filledBy}
+use Rattle.log.specs.Answer.{hostFaults, textAnswer, logAnswer, logAfter}
 use Rattle.log_buffer.specs.Valid.{isLog}
 use Rattle.log_buffer.proofs.Sound.{sound-iff}
 use Rattle.log_texts.specs.Spelled.{stepsOf}
@@ -156,8 +156,8 @@ module _ (log : List ℕ) (count : ℕ) (text : List ℕ) (t : T (accepts log co
         reads = says;
         gives = gives;
         answers = λ buffer h.
-            sym (answer-accepted (hostFaults count buffer) (acceptedWith (length (stepsOf (take bufferLength log)))) (answerOf (logText count (logWritten log)))
-            (no-host-fault buffer h) (ap answerOf (sym says)));
+            sym (answer-accepted (hostFaults count buffer) (acceptedWith (length (stepsOf (take bufferLength log)))) (textAnswer (logWritten log) (logText count (logWritten log)))
+            (no-host-fault buffer h) (ap (textAnswer (logWritten log)) (sym says)));
         fills = λ buffer h.
             sym (room-filled (hostFaults count buffer) buffer (filledBy (logText count (logWritten log)) buffer)
             (take bufferLength log ++ drop bufferLength buffer) (no-host-fault buffer h)

@@ -15,7 +15,7 @@ pub fn try_write(line: &[u8], text: &[u8], labels: u16, log: &[u16], kinds: &mut
 fn call(line: &[u8], labels: u16, log: &[u16], buffer: &mut [u8]) -> Answer {
     let l = outcome::sum_of_sums(log);
     let a = lend(trial::column(line, 3), log, labels, buffer);
-    outcome::print_answer(trial::column(line, 0), a.number, a.line, a.count);
+    outcome::print_answer(trial::column(line, 0), a.number, a.line, a.byte, a.count);
     outcome::print_claim(b"; log kept", outcome::sum_of_sums(log) == l);
     a
 }

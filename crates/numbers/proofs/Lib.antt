@@ -1,4 +1,6 @@
+pub mod Fronts
 pub mod NumberLaws
+pub mod Stops
 pub mod ValueLaws
 pub mod ColumnLaws
 pub mod Spelling

@@ -4,8 +4,13 @@ use mathlib.Core.Bool.{Bool, true, false, not, cond, _&&_}
 use mathlib.Core.List.{List, [], _∷_, _++_}
 use mathlib.Core.Option.{Option, none, some}
 use lib.Dec.{leb, ltb, eqb}
+use lib.ListN.{length, take}
+use Rattle.lists.specs.Leftmost.{leftmost}
+use Rattle.text.specs.Split.{firstPart}
 use Rattle.numbers.specs.declared.Number.{Number}
 use Rattle.numbers.specs.declared.Number.the-variants.{Value, Malformed}
+use Rattle.numbers.specs.declared.NumberRead.{NumberRead}
+use Rattle.numbers.specs.declared.NumberRead.the-variants.{Ended, Stopped}
 
 -- A digit's byte, 48 to 57.
 abbrev pub digit : ℕ → Bool
@@ -55,6 +60,28 @@ isNumber bs = isSome (decimal largest bs)
 
 abbrev pub valueOf : List ℕ → ℕ
 valueOf bs = orZero (decimal largest bs)
+
+-- Where reading stops in a field: at the first byte after which no number can follow, since the bytes up to it are none; or at the field's end.
+abbrev pub stopOf : ℕ → List ℕ → ℕ
+stopOf most f = leftmost (λ i. not (isSome (decimal most (take (suc i) f)))) (length f)
+
+-- What reading answers for the bytes before the first separator: the number and where reading stopped, or only that.
+abbrev pub firstNumber : ℕ → List ℕ → Option ℕ
+firstNumber separator bs = decimal largest (firstPart separator bs)
+
+abbrev pub firstStop : ℕ → List ℕ → ℕ
+firstStop separator bs = stopOf largest (firstPart separator bs)
+
+abbrev pub readAnswer : Option ℕ → ℕ → NumberRead
+readAnswer none stop = Stopped stop
+readAnswer (some n) stop = Ended n stop
+
+-- At the end of a field of so many bytes, which are digits of this value: no byte is no number.
+abbrev pub endOf : ℕ → ℕ → NumberRead
+endOf size value = cond (eqb size 0) (Stopped 0) (Ended value size)
+
+unfoldable pub firstRead : ℕ → List ℕ → NumberRead
+firstRead separator bs = readAnswer (firstNumber separator bs) (firstStop separator bs)
 
 -- The spelling of a number in at most d digits.
 unfoldable pub spellIn : ℕ → ℕ → List ℕ

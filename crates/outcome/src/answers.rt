@@ -6,17 +6,18 @@ use crate::print::print_count;
 use crate::print::print_line;
 use crate::print::print_number;
 
-// `name: number n line l count c`, with no line end.
-pub fn print_answer(name: &[u8], number: u16, line: u16, count: u16) {
+// `name: number n line l byte b count c`, with no line end.
+pub fn print_answer(name: &[u8], number: u16, line: u16, byte: u16, count: u16) {
     print_bytes(name);
     print_after(b": number ", number);
     print_after(b" line ", line);
+    print_after(b" byte ", byte);
     print_after(b" count ", count);
 }
 
 // The line of a call that was lent one buffer of marks: its answer, and what it left.
-pub fn print_call(name: &[u8], number: u16, line: u16, count: u16, buffer: &[u16]) {
-    print_answer(name, number, line, count);
+pub fn print_call(name: &[u8], number: u16, line: u16, byte: u16, count: u16, buffer: &[u16]) {
+    print_answer(name, number, line, byte, count);
     print_buffer(number, buffer);
     print_line(b"");
 }

@@ -1,3 +1,4 @@
 pub mod AcceptedLaws
 pub mod ReadingLaws
 pub mod Refused
+pub mod Stays

@@ -9,7 +9,7 @@ use borrow.Author.Tests.{eq-eqb, ne-eqb, lt-ltb, le-ltb, eqb-true, eqb-false}
 use lib.Dec.{eqb}
 use lib.ListN.{length, getD, drop, set, replicate, length-replicate, getD-replicate}
 use Rattle.answer.specs.declared.Answer.{Answer}
-use Rattle.answer.specs.Answers.{acceptedWith, refusedAt}
+use Rattle.answer.specs.Answers.{acceptedWith, refusedAt, refusedIn}
 use Rattle.text.specs.Walk.{Outcome, accepted, faulty, walk, readText}
 use Rattle.sets.specs.Sets.{setOf}
 use Rattle.pattern_line.specs.Limits.{bufferLength}
@@ -17,7 +17,8 @@ use Rattle.pattern_order.specs.Row.{Row}
 use Rattle.pattern_store.specs.Next.{statesOf}
 use Rattle.pattern_store.specs.Format.{Known, judgeNext, patternFormat, conclude, patternText}
 use Rattle.pattern_store.specs.Buffer.{beadCount, ruleOfBead, acceptingOf, nextOf, bufferOf}
-use Rattle.pattern.specs.Answer.{hostFaults, answerOf, filledBy, patternAnswer, patternAfter}
+use Rattle.pattern_byte.specs.Byte.{patternByte}
+use Rattle.pattern.specs.Answer.{refusedWith, hostFaults, answerOf, filledBy, patternAnswer, patternAfter}
 use Rattle.answer.proofs.FaultLaws.{Passed, answer-refused as first-answer, answer-accepted as other-answer, room-kept, room-filled, first-below, stopped-below, passed-past, passed-all}
 use Rattle.pattern_line.specs.Answers.{refusalNumber}
 use Rattle.pattern_late.specs.Late.{Bounded, lateFaults, lateSaid}
@@ -181,10 +182,15 @@ accepted-said : (o : Outcome Known) (c : ℕ) → accepted c ≡ beadsOf o → (
 accepted-said (accepted k) c e = (k, refl, cc)
 accepted-said (faulty m l) c e = let w : _≡_ {A = ℕ} 0 1 = cc in absurd (omega arith)
 
+pub refuse-is : (text : List ℕ) (n line b : ℕ) (a : Answer) → b ≡ patternByte text n line → a ≡ refusedIn n line b → a ≡ refusedWith text n line
+refuse-is text n line b a e q = q ∙ ap (refusedIn n line) e
+
+pub ruleset refuse-kit = (refuse-is)
+
 module _ (text room : List ℕ) where
   module _ (short : length room < bufferLength) where
     pub answer-short : (a : Answer) → a ≡ refusedAt 2 0 → a ≡ patternAnswer text room
-    answer-short a e = first-answer (hostFaults room) (refusedAt 2 0) a (answerOf (patternText text)) e (first-below (length room) bufferLength (refusedAt 2 0) [] short)
+    answer-short a e = first-answer (hostFaults room) (refusedAt 2 0) a (answerOf text (patternText text)) e (first-below (length room) bufferLength (refusedAt 2 0) [] short)
 
     pub after-short : room ≡ patternAfter text room
     after-short = room-kept (hostFaults room) room (filledBy (patternText text) room) (stopped-below (length room) bufferLength (refusedAt 2 0) [] short)
@@ -193,8 +199,8 @@ module _ (text room : List ℕ) where
     passed : Passed (hostFaults room)
     passed = passed-past (length room) bufferLength (refusedAt 2 0) [] fits passed-all
 
-    answer-long : patternAnswer text room ≡ answerOf (patternText text)
-    answer-long = sym (other-answer (hostFaults room) (answerOf (patternText text)) (answerOf (patternText text)) passed refl)
+    answer-long : patternAnswer text room ≡ answerOf text (patternText text)
+    answer-long = sym (other-answer (hostFaults room) (answerOf text (patternText text)) (answerOf text (patternText text)) passed refl)
 
     after-long : patternAfter text room ≡ filledBy (patternText text) room
     after-long = sym (room-filled (hostFaults room) room (filledBy (patternText text) room) (filledBy (patternText text) room) passed refl)
@@ -203,8 +209,8 @@ module _ (text room : List ℕ) where
       fault : patternText text ≡ faulty (refusalNumber f) line
       fault = faulty-said (patternText text) (refusalNumber f) line (sym (ap textSaid p) ∙ d .said)
 
-      pub answer-refused : (n : ℕ) (a : Answer) → n ≡ refusalNumber f → a ≡ refusedAt n line → a ≡ patternAnswer text room
-      answer-refused n a e q = q ∙ ap (λ (m : ℕ). refusedAt m line) e ∙ sym (answer-long ∙ ap answerOf fault)
+      pub answer-refused : (n : ℕ) (a : Answer) → n ≡ refusalNumber f → a ≡ refusedWith text n line → a ≡ patternAnswer text room
+      answer-refused n a e q = q ∙ ap (λ (m : ℕ). refusedWith text m line) e ∙ sym (answer-long ∙ ap (answerOf text) fault)
 
       pub after-refused : room ≡ patternAfter text room
       after-refused = sym (after-long ∙ ap (λ (o : Outcome Known). filledBy o room) fault)
@@ -214,7 +220,7 @@ module _ (text room : List ℕ) where
       known = accepted-said (patternText text) c (sym (ap textSaid p) ∙ d .said)
 
       pub answer-accepted : (a : Answer) → a ≡ acceptedWith c → a ≡ patternAnswer text room
-      answer-accepted a q = q ∙ ap acceptedWith (known .2) ∙ sym (answer-long ∙ ap answerOf (known .1))
+      answer-accepted a q = q ∙ ap acceptedWith (known .2) ∙ sym (answer-long ∙ ap (answerOf text) (known .1))
 
       numbers-are : b ≡ bufferOf (known .0)
       numbers-are = d .numbers (known .0) (known .1)

@@ -12,7 +12,6 @@ use lib.Dec.{T, eqb, ltb}
 use lib.ListN.{length}
 use Rattle.sets.proofs.Truth.{true-yes, false-no}
 use Rattle.answer.specs.declared.Answer.{Answer}
-use Rattle.answer.specs.Answers.{refusedAt}
 use Rattle.answer.specs.Faults.{firstFault, answerOr, keptOr}
 use Rattle.text.specs.Split.{split}
 use Rattle.text.specs.Lines.{TextLine, linesOf, whole}
@@ -25,7 +24,8 @@ use Rattle.pattern_order.specs.Row.{Row, disordered, misruled}
 use Rattle.pattern_row.specs.Fields.{rowOf, malformed}
 use Rattle.pattern_store.specs.Next.{strays, ambiguous}
 use Rattle.pattern_store.specs.Format.{Known, judgeRow, judgeLine, judgeNext, patternFormat, conclude, patternText}
-use Rattle.pattern.specs.Answer.{answerOf, filledBy, patternAnswer, patternAfter}
+use Rattle.pattern_byte.specs.Byte.{patternByte}
+use Rattle.pattern.specs.Answer.{refusedWith, answerOf, filledBy, patternAnswer, patternAfter}
 use Rattle.pattern.specs.Refused.{Readable, LinesPass, Refused, short, size, line, nothing, next}
 use Rattle.pattern.specs.Promise.{Promise, refused as refused-so, accepted as accepted-so}
 
@@ -83,8 +83,8 @@ nexts-known rows (next-line {s = k} {t = u} {n = n} {l = r} e rest) = next-known
 
 module _ (text buffer : List ℕ) where
   module _ (h : length buffer < bufferLength) where
-    short-answer : patternAnswer text buffer ≡ refusedAt 2 0
-    unfolding firstFault answerOr
+    short-answer : patternAnswer text buffer ≡ refusedWith text 2 0
+    unfolding firstFault answerOr patternByte
     short-answer = rw (lt-ltb (length buffer) bufferLength h) refl
 
     short-after : patternAfter text buffer ≡ buffer
@@ -92,7 +92,7 @@ module _ (text buffer : List ℕ) where
     short-after = rw (lt-ltb (length buffer) bufferLength h) refl
 
   module _ (long : bufferLength ≤ length buffer) where
-    long-answer : patternAnswer text buffer ≡ answerOf (patternText text)
+    long-answer : patternAnswer text buffer ≡ answerOf text (patternText text)
     unfolding firstFault answerOr
     long-answer = rw (le-ltb (length buffer) bufferLength long) refl
 
@@ -100,8 +100,8 @@ module _ (text buffer : List ℕ) where
     unfolding firstFault keptOr
     long-after = rw (le-ltb (length buffer) bufferLength long) refl
 
-    said-answer : (number at : ℕ) → patternText text ≡ faulty number at → patternAnswer text buffer ≡ refusedAt number at
-    said-answer number at e = long-answer ∙ ap answerOf e
+    said-answer : (number at : ℕ) → patternText text ≡ faulty number at → patternAnswer text buffer ≡ refusedWith text number at
+    said-answer number at e = long-answer ∙ ap (answerOf text) e
 
     said-after : (number at : ℕ) → patternText text ≡ faulty number at → patternAfter text buffer ≡ buffer
     said-after number at e = long-after ∙ ap (λ (o : Outcome Known). filledBy o buffer) e
@@ -137,7 +137,7 @@ module _ (text buffer : List ℕ) where
   walk-next : (k : Known) (number at : ℕ) → nexts k ≡ faulty number at ↔ FirstBad (judgeNext (k .rows)) k 2 (k .rows) number at
   walk-next k number at = walk-refuses (judgeNext (k .rows)) k 2 number at (k .rows)
 
-  answers : (number at : ℕ) → Refused text buffer number at → patternAnswer text buffer ≡ refusedAt number at
+  answers : (number at : ℕ) → Refused text buffer number at → patternAnswer text buffer ≡ refusedWith text number at
   answers number at (short h) = short-answer h
   answers number at (size l t) = said-answer l number at (size-said t)
   answers number at (line r b) = said-answer (r .long) number at (lines-said (r .sized) (faulty number at) (walk-line number at .1 b))
@@ -176,7 +176,7 @@ module _ (text buffer : List ℕ) where
 
       accept : bufferLength ≤ length buffer → (k : Known) → LinesPass text k → patternText text ≡ accepted k → Promised
       accept long k p e =
-          let counts = long-answer long ∙ ap answerOf e in
+          let counts = long-answer long ∙ ap (answerOf text) e in
           accepted-so (none (ap (λ (a : Answer). a .number) counts))
           (record { known = k; lines = p; counts = counts; fills = long-after long ∙ ap (λ (o : Outcome Known). filledBy o buffer) e })
 
@@ -199,18 +199,18 @@ module _ (text buffer : List ℕ) where
       host false x true y = refuse 10 0 (size (ltb-false (length buffer) bufferLength x) (true-yes (badSize mostText text) y))
       host false x false y = walks (record { long = ltb-false (length buffer) bufferLength x; sized = false-no (badSize mostText text) y }) lines refl
 
-  refused-by : (number at : ℕ) → patternAnswer text buffer ≡ refusedAt number at → (number ≡ 0 → ⊥) → Refused text buffer number at
+  refused-by : (number at : ℕ) → patternAnswer text buffer ≡ refusedWith text number at → (number ≡ 0 → ⊥) → Refused text buffer number at
   refused-by number at e n = go pattern-promise
     where
       go : Promised → Refused text buffer number at
       go (accepted-so f a) = absurd (n (ap (λ (x : Answer). x .number) (sym e ∙ a .counts)))
       go (refused-so m i r f k) =
-          let q : refusedAt m i ≡ refusedAt number at = sym f ∙ e in
+          let q : refusedWith text m i ≡ refusedWith text number at = sym f ∙ e in
           subst (λ (x : ℕ). Refused text buffer x at) (ap (λ (a : Answer). a .number) q)
           (subst (λ (y : ℕ). Refused text buffer m y) (ap (λ (a : Answer). a .line) q) r)
 
   -- A refusal is given if its text in document 01 applies, and only then.
-  pub pattern-refused : (number at : ℕ) → (patternAnswer text buffer ≡ refusedAt number at) × (number ≡ 0 → ⊥) ↔ Refused text buffer number at
+  pub pattern-refused : (number at : ℕ) → (patternAnswer text buffer ≡ refusedWith text number at) × (number ≡ 0 → ⊥) ↔ Refused text buffer number at
   pattern-refused number at = (λ p. refused-by number at (p .0) (p .1), λ r. (answers number at r, numbers number at r))
 
   -- A call is accepted just where no refusal applies.

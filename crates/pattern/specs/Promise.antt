@@ -1,15 +1,16 @@
--- What a call of the pattern reader promises, in document 01's words. Either it is refused, by the list's entry that applies, and the lent room
--- is as it was. Or no entry applies: the count is the number of beads, the numbers of what the lines say stand in front of the room, and the
+-- What a call of the pattern reader promises, in document 01's words. Either it is refused, by the list's entry that applies, with
+-- the byte that this has in the text, and the lent room is as it was. Or no entry applies: the count is the number of beads, the numbers of what the lines say stand in front of the room, and the
 -- rest of it is as it was.
 use Prim.Native.Nat.{ℕ}
 use mathlib.Core.Path.{_≡_}
 use mathlib.Core.List.{List, _++_}
 use lib.ListN.{drop}
 use Rattle.answer.specs.declared.Answer.{Answer}
-use Rattle.answer.specs.Answers.{acceptedWith, refusedAt}
+use Rattle.answer.specs.Answers.{acceptedWith}
 use Rattle.pattern_line.specs.Limits.{bufferLength}
 use Rattle.pattern_store.specs.Format.{Known}
 use Rattle.pattern_store.specs.Buffer.{beadCount, bufferOf}
+use Rattle.pattern.specs.Answer.{refusedWith}
 use Rattle.pattern.specs.Refused.{LinesPass, Refused}
 
 -- What an accepted call answers and leaves.
@@ -20,5 +21,5 @@ pub record Read (text buffer : List ℕ) (answer : Answer) (buffer′ : List ℕ
   pub fills : buffer′ ≡ bufferOf known ++ drop bufferLength buffer
 
 pub data Promise (text buffer : List ℕ) (answer : Answer) (buffer′ : List ℕ) : Type 0 where
-  refused : (number line : ℕ) → Refused text buffer number line → answer ≡ refusedAt number line → buffer′ ≡ buffer → Promise text buffer answer buffer′
+  refused : (number line : ℕ) → Refused text buffer number line → answer ≡ refusedWith text number line → buffer′ ≡ buffer → Promise text buffer answer buffer′
   accepted : ((number line : ℕ) → Refused text buffer number line → ⊥) → Read text buffer answer buffer′ → Promise text buffer answer buffer′

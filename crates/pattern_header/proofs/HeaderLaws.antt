@@ -81,7 +81,7 @@ pub ruleset field-kit = (ordered, inside, name-absent, name-there)
 
 -- ---- the columns
 
-columns-by-field : (fs : List (List ℕ))
+pub columns-by-field : (fs : List (List ℕ))
     → sameFields (take 4 fs) columns
     ≡ (sameBytes (getD fs 0 []) (getD columns 0 []) && (sameBytes (getD fs 1 []) (getD columns 1 [])
     && (sameBytes (getD fs 2 []) (getD columns 2 []) && sameBytes (getD fs 3 []) (getD columns 3 []))))

@@ -59,7 +59,8 @@ fn is_name(field: &[u8]) -> bool
     name_bytes(field)
 }
 
-fn name_at(line: &[u8], marks: &[usize], index: usize) -> bool
+// Is the field with this index a label's name?
+pub fn name_at(line: &[u8], marks: &[usize], index: usize) -> bool
     requires { ⌜ Marked 32 (now line) (now marks) ⌝ }
     ensures { λ r. ⌜ r ≡ isName (fieldAt (now (line .entry)) index) ⌝ }
 {

@@ -2,14 +2,15 @@
 ghost use mathlib.Core.Path.{_≡_};
 ghost use lib.ListN.{length, drop};
 ghost use Rattle.fields.specs.Fields.{Marked};
-ghost use Rattle.numbers.specs.Numbers.{isNumber, valueOf};
 ghost use Rattle.pattern_line.specs.Line.{fieldsOf, fieldAt};
 ghost use Rattle.pattern_order.specs.Answers.{lineSaid, rowsAt};
 ghost use Rattle.pattern_row.specs.Fields.{ruleOf};
 ghost use Rattle.pattern_row.specs.Answers.{rowJudged, nextSets};
 ghost use Rattle.numbers.specs.Listed.{areNumbers};
 use numbers::Number;
+use numbers::is_number_at;
 use numbers::number_at;
+use numbers::value_at;
 use pattern_line::refusals::Refusal;
 use pattern_line::words::word_at;
 use pattern_order::Last;
@@ -30,17 +31,6 @@ fn rule_at(line: &[u8], marks: &[usize]) -> u16
     0
 }
 
-// Is it a number?
-fn is_number_at(line: &[u8], marks: &[usize], index: usize) -> bool
-    requires { ⌜ Marked 32 (now line) (now marks) ⌝ }
-    ensures { λ r. ⌜ r ≡ isNumber (fieldAt (now (line .entry)) index) ⌝ }
-{
-    match number_at(line, marks, index) {
-        Number::Malformed => false,
-        Number::Value(_) => true,
-    }
-}
-
 // Are all fields after the first four numbers?
 fn are_numbers(line: &[u8], marks: &[usize]) -> bool
     requires { ⌜ Marked 32 (now line) (now marks) ⌝ }
@@ -55,17 +45,6 @@ fn are_numbers(line: &[u8], marks: &[usize]) -> bool
         i += 1;
     }
     true
-}
-
-// The number of a field; 0 where it is none.
-fn value_at(line: &[u8], marks: &[usize], index: usize) -> u16
-    requires { ⌜ Marked 32 (now line) (now marks) ⌝ }
-    ensures { λ r. ⌜ r ≡ valueOf (fieldAt (now (line .entry)) index) ⌝ }
-{
-    match number_at(line, marks, index) {
-        Number::Malformed => 0,
-        Number::Value(v) => v,
-    }
 }
 
 // The next sets: the numbers of the fields after the first four, and 0 for the labels that the line lacks.

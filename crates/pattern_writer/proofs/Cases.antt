@@ -12,7 +12,7 @@ use Rattle.sets.specs.Sets.{setOf, membersFrom}
 use Rattle.sets.proofs.Truth.{yes-true}
 use Rattle.lists.specs.Tables.{table}
 use Rattle.answer.specs.declared.Answer.{Answer}
-use Rattle.answer.specs.Answers.{acceptedWith, refusedAt}
+use Rattle.answer.specs.Answers.{acceptedWith, refusedAt, refusedIn}
 use Rattle.answer.specs.Faults.{Fault, when, firstFault, answerOr, keptOr}
 use Rattle.text.specs.Split.{split, joined}
 use Rattle.text.specs.Lines.{asLines, printable}
@@ -31,6 +31,11 @@ use Rattle.pattern_buffer.specs.Valid.{isPattern}
 use Rattle.pattern_texts.specs.Spelled.{rowsOfBead, rowsOfBeads, rowsOf, rowLines}
 use Rattle.pattern_texts.proofs.Buffers.{length-buffer}
 use Rattle.pattern_texts.proofs.PatternBuffers.{pattern-buffers}
+use Rattle.lists.specs.Leftmost.{leftmostFrom}
+use Rattle.fields.specs.Fields.{partStart}
+use Rattle.line_places.specs.Place.{placeAt, unprintablePlace, rankedAt}
+use Rattle.pattern_places.specs.Place.{wrongName}
+use Rattle.pattern_byte.specs.Header.{headerTextAt}
 use Rattle.pattern_writer.specs.Writer.{headerFits, written, writeAnswer, textAfter, inFront}
 
 -- ---- the pattern
@@ -80,7 +85,7 @@ abbrev pub faultsBy : Facts → List ℕ → List ℕ → List Fault
 faultsBy f h text =
     when (ltb (f .size) bufferLength) (refusedAt 2 0)
     ∷ when (not (f .is)) (refusedAt 6 0)
-    ∷ when (not (headerFits (f .labels) h)) (refusedAt 12 1)
+    ∷ when (not (headerFits (f .labels) h)) (refusedIn 12 1 (headerTextAt h))
     ∷ when (ltb (length text) (length (h ++ f .rows))) (refusedAt 8 0)
     ∷ []
 
@@ -163,25 +168,32 @@ pub record Call : Type 0 where
   pub answer : Answer
   pub holds : Bool
 
--- Header texts that are at fault under one label.
-unfoldable pub faulty : List (List ℕ)
+-- A header text that is at fault under one label, and its byte.
+pub record Faulty : Type 0 where
+  pub byte : ℕ
+  pub head : List ℕ
+
+abbrev at : ℕ → List ℕ → Faulty
+at b h = record { byte = b; head = h }
+
+unfoldable pub faulty : List Faulty
 faulty =
-    ([])  -- nothing
-    ∷ (10 ∷ [])  -- a newline alone
-    ∷ (98 ∷ 101 ∷ 97 ∷ 100 ∷ 32 ∷ 114 ∷ 117 ∷ 108 ∷ 101 ∷ 32 ∷ 115 ∷ 116 ∷ 97 ∷ 116 ∷ 101 ∷ 32 ∷ 102 ∷ 105 ∷ 110 ∷ 97 ∷ 108 ∷ 32 ∷ 97 ∷ [])  -- no newline
-    ∷ (10 ∷ 98 ∷ 101 ∷ 97 ∷ 100 ∷ 32 ∷ 114 ∷ 117 ∷ 108 ∷ 101 ∷ 32 ∷ 115 ∷ 116 ∷ 97 ∷ 116 ∷ 101 ∷ 32 ∷ 102 ∷ 105 ∷ 110 ∷ 97 ∷ 108 ∷ 32 ∷ 97 ∷ 10 ∷ [])  -- a newline first
-    ∷ (98 ∷ 101 ∷ 97 ∷ 100 ∷ 32 ∷ 114 ∷ 117 ∷ 108 ∷ 101 ∷ 32 ∷ 115 ∷ 116 ∷ 97 ∷ 116 ∷ 101 ∷ 32 ∷ 102 ∷ 105 ∷ 110 ∷ 97 ∷ 108 ∷ 32 ∷ 97 ∷ 10 ∷ 10 ∷ [])  -- two newlines
-    ∷ (98 ∷ 101 ∷ 97 ∷ 100 ∷ 32 ∷ 114 ∷ 117 ∷ 108 ∷ 101 ∷ 32 ∷ 115 ∷ 116 ∷ 97 ∷ 116 ∷ 101 ∷ 32 ∷ 102 ∷ 105 ∷ 110 ∷ 97 ∷ 108 ∷ 32 ∷ 97 ∷ 10 ∷ 49 ∷ 32 ∷ 83 ∷ 79 ∷ 77 ∷ 69 ∷ 32 ∷ 48 ∷ 32 ∷ 49 ∷ 32 ∷ 49 ∷ 10 ∷ [])  -- a second line
-    ∷ (98 ∷ 101 ∷ 97 ∷ 100 ∷ 32 ∷ 114 ∷ 117 ∷ 108 ∷ 101 ∷ 32 ∷ 115 ∷ 116 ∷ 97 ∷ 116 ∷ 101 ∷ 32 ∷ 102 ∷ 105 ∷ 110 ∷ 97 ∷ 108 ∷ 32 ∷ 97 ∷ 10 ∷ 97 ∷ [])  -- a byte behind the line
-    ∷ (98 ∷ 101 ∷ 97 ∷ 100 ∷ 32 ∷ 114 ∷ 117 ∷ 108 ∷ 101 ∷ 32 ∷ 115 ∷ 116 ∷ 97 ∷ 116 ∷ 101 ∷ 32 ∷ 102 ∷ 105 ∷ 110 ∷ 97 ∷ 108 ∷ 32 ∷ 97 ∷ 13 ∷ 10 ∷ [])  -- a carriage return
-    ∷ (98 ∷ 101 ∷ 97 ∷ 100 ∷ 9 ∷ 114 ∷ 117 ∷ 108 ∷ 101 ∷ 32 ∷ 115 ∷ 116 ∷ 97 ∷ 116 ∷ 101 ∷ 32 ∷ 102 ∷ 105 ∷ 110 ∷ 97 ∷ 108 ∷ 32 ∷ 97 ∷ 10 ∷ [])  -- a tab
-    ∷ (98 ∷ 101 ∷ 97 ∷ 100 ∷ 32 ∷ 114 ∷ 117 ∷ 108 ∷ 101 ∷ 32 ∷ 115 ∷ 116 ∷ 97 ∷ 116 ∷ 101 ∷ 32 ∷ 102 ∷ 105 ∷ 110 ∷ 97 ∷ 108 ∷ 32 ∷ 97 ∷ 127 ∷ 10 ∷ [])  -- byte 127
-    ∷ (replicate 241 97 ++ (10 ∷ []))  -- 241 bytes before the newline
-    ∷ (98 ∷ 101 ∷ 97 ∷ 100 ∷ 32 ∷ 114 ∷ 117 ∷ 108 ∷ 101 ∷ 32 ∷ 115 ∷ 116 ∷ 97 ∷ 116 ∷ 101 ∷ 32 ∷ 97 ∷ 10 ∷ [])  -- three names of columns
-    ∷ (98 ∷ 101 ∷ 97 ∷ 100 ∷ 32 ∷ 114 ∷ 117 ∷ 108 ∷ 101 ∷ 32 ∷ 115 ∷ 116 ∷ 97 ∷ 116 ∷ 101 ∷ 32 ∷ 102 ∷ 105 ∷ 110 ∷ 97 ∷ 108 ∷ 10 ∷ [])  -- no label
-    ∷ (66 ∷ 101 ∷ 97 ∷ 100 ∷ 32 ∷ 114 ∷ 117 ∷ 108 ∷ 101 ∷ 32 ∷ 115 ∷ 116 ∷ 97 ∷ 116 ∷ 101 ∷ 32 ∷ 102 ∷ 105 ∷ 110 ∷ 97 ∷ 108 ∷ 32 ∷ 97 ∷ 10 ∷ [])  -- `Bead`
-    ∷ (98 ∷ 101 ∷ 97 ∷ 100 ∷ 32 ∷ 114 ∷ 117 ∷ 108 ∷ 101 ∷ 32 ∷ 115 ∷ 116 ∷ 97 ∷ 116 ∷ 101 ∷ 32 ∷ 102 ∷ 105 ∷ 110 ∷ 97 ∷ 108 ∷ 32 ∷ 97 ∷ 32 ∷ 98 ∷ 10 ∷ [])  -- one label more than the pattern has
-    ∷ (98 ∷ 101 ∷ 97 ∷ 100 ∷ 32 ∷ 114 ∷ 117 ∷ 108 ∷ 101 ∷ 32 ∷ 115 ∷ 116 ∷ 97 ∷ 116 ∷ 101 ∷ 32 ∷ 102 ∷ 105 ∷ 110 ∷ 97 ∷ 108 ∷ 32 ∷ 97 ∷ 32 ∷ 97 ∷ 10 ∷ [])  -- a label twice
+    at 0 ([])  -- nothing
+    ∷ at 1 (10 ∷ [])  -- a newline alone
+    ∷ at 0 (98 ∷ 101 ∷ 97 ∷ 100 ∷ 32 ∷ 114 ∷ 117 ∷ 108 ∷ 101 ∷ 32 ∷ 115 ∷ 116 ∷ 97 ∷ 116 ∷ 101 ∷ 32 ∷ 102 ∷ 105 ∷ 110 ∷ 97 ∷ 108 ∷ 32 ∷ 97 ∷ [])  -- no newline
+    ∷ at 0 (10 ∷ 98 ∷ 101 ∷ 97 ∷ 100 ∷ 32 ∷ 114 ∷ 117 ∷ 108 ∷ 101 ∷ 32 ∷ 115 ∷ 116 ∷ 97 ∷ 116 ∷ 101 ∷ 32 ∷ 102 ∷ 105 ∷ 110 ∷ 97 ∷ 108 ∷ 32 ∷ 97 ∷ 10 ∷ [])  -- a newline first
+    ∷ at 0 (98 ∷ 101 ∷ 97 ∷ 100 ∷ 32 ∷ 114 ∷ 117 ∷ 108 ∷ 101 ∷ 32 ∷ 115 ∷ 116 ∷ 97 ∷ 116 ∷ 101 ∷ 32 ∷ 102 ∷ 105 ∷ 110 ∷ 97 ∷ 108 ∷ 32 ∷ 97 ∷ 10 ∷ 10 ∷ [])  -- two newlines
+    ∷ at 0 (98 ∷ 101 ∷ 97 ∷ 100 ∷ 32 ∷ 114 ∷ 117 ∷ 108 ∷ 101 ∷ 32 ∷ 115 ∷ 116 ∷ 97 ∷ 116 ∷ 101 ∷ 32 ∷ 102 ∷ 105 ∷ 110 ∷ 97 ∷ 108 ∷ 32 ∷ 97 ∷ 10 ∷ 49 ∷ 32 ∷ 83 ∷ 79 ∷ 77 ∷ 69 ∷ 32 ∷ 48 ∷ 32 ∷ 49 ∷ 32 ∷ 49 ∷ 10 ∷ [])  -- a second line
+    ∷ at 0 (98 ∷ 101 ∷ 97 ∷ 100 ∷ 32 ∷ 114 ∷ 117 ∷ 108 ∷ 101 ∷ 32 ∷ 115 ∷ 116 ∷ 97 ∷ 116 ∷ 101 ∷ 32 ∷ 102 ∷ 105 ∷ 110 ∷ 97 ∷ 108 ∷ 32 ∷ 97 ∷ 10 ∷ 97 ∷ [])  -- a byte behind the line
+    ∷ at 24 (98 ∷ 101 ∷ 97 ∷ 100 ∷ 32 ∷ 114 ∷ 117 ∷ 108 ∷ 101 ∷ 32 ∷ 115 ∷ 116 ∷ 97 ∷ 116 ∷ 101 ∷ 32 ∷ 102 ∷ 105 ∷ 110 ∷ 97 ∷ 108 ∷ 32 ∷ 97 ∷ 13 ∷ 10 ∷ [])  -- a carriage return
+    ∷ at 5 (98 ∷ 101 ∷ 97 ∷ 100 ∷ 9 ∷ 114 ∷ 117 ∷ 108 ∷ 101 ∷ 32 ∷ 115 ∷ 116 ∷ 97 ∷ 116 ∷ 101 ∷ 32 ∷ 102 ∷ 105 ∷ 110 ∷ 97 ∷ 108 ∷ 32 ∷ 97 ∷ 10 ∷ [])  -- a tab
+    ∷ at 24 (98 ∷ 101 ∷ 97 ∷ 100 ∷ 32 ∷ 114 ∷ 117 ∷ 108 ∷ 101 ∷ 32 ∷ 115 ∷ 116 ∷ 97 ∷ 116 ∷ 101 ∷ 32 ∷ 102 ∷ 105 ∷ 110 ∷ 97 ∷ 108 ∷ 32 ∷ 97 ∷ 127 ∷ 10 ∷ [])  -- byte 127
+    ∷ at 0 (replicate 241 97 ++ (10 ∷ []))  -- 241 bytes before the newline
+    ∷ at 17 (98 ∷ 101 ∷ 97 ∷ 100 ∷ 32 ∷ 114 ∷ 117 ∷ 108 ∷ 101 ∷ 32 ∷ 115 ∷ 116 ∷ 97 ∷ 116 ∷ 101 ∷ 32 ∷ 97 ∷ 10 ∷ [])  -- three names of columns
+    ∷ at 0 (98 ∷ 101 ∷ 97 ∷ 100 ∷ 32 ∷ 114 ∷ 117 ∷ 108 ∷ 101 ∷ 32 ∷ 115 ∷ 116 ∷ 97 ∷ 116 ∷ 101 ∷ 32 ∷ 102 ∷ 105 ∷ 110 ∷ 97 ∷ 108 ∷ 10 ∷ [])  -- no label
+    ∷ at 1 (66 ∷ 101 ∷ 97 ∷ 100 ∷ 32 ∷ 114 ∷ 117 ∷ 108 ∷ 101 ∷ 32 ∷ 115 ∷ 116 ∷ 97 ∷ 116 ∷ 101 ∷ 32 ∷ 102 ∷ 105 ∷ 110 ∷ 97 ∷ 108 ∷ 32 ∷ 97 ∷ 10 ∷ [])  -- `Bead`
+    ∷ at 0 (98 ∷ 101 ∷ 97 ∷ 100 ∷ 32 ∷ 114 ∷ 117 ∷ 108 ∷ 101 ∷ 32 ∷ 115 ∷ 116 ∷ 97 ∷ 116 ∷ 101 ∷ 32 ∷ 102 ∷ 105 ∷ 110 ∷ 97 ∷ 108 ∷ 32 ∷ 97 ∷ 32 ∷ 98 ∷ 10 ∷ [])  -- one label more than the pattern has
+    ∷ at 25 (98 ∷ 101 ∷ 97 ∷ 100 ∷ 32 ∷ 114 ∷ 117 ∷ 108 ∷ 101 ∷ 32 ∷ 115 ∷ 116 ∷ 97 ∷ 116 ∷ 101 ∷ 32 ∷ 102 ∷ 105 ∷ 110 ∷ 97 ∷ 108 ∷ 32 ∷ 97 ∷ 32 ∷ 97 ∷ 10 ∷ [])  -- a label twice
     ∷ []
 
 abbrev refusing : Kind → List ℕ → ℕ → Answer → Call
@@ -202,7 +214,7 @@ calls =
     ∷ refusing right header 48 (refusedAt 8 0)
     ∷ writing 49
     ∷ writing 50
-    ∷ map (λ h. refusing right h 99 (refusedAt 12 1)) faulty
+    ∷ map (λ f. refusing right (f .head) 99 (refusedIn 12 1 (f .byte))) faulty
 
 pub calls-count : length calls ≡ 26
 unfolding calls faulty
@@ -215,7 +227,7 @@ abbrev pub leaves : Call → List ℕ
 leaves c = cond (c .holds) (header ++ lines ++ replicate (c .room - 49) 9) (roomOf c)
 
 answered : map (λ c. answerBy (factsBy (c .kind)) (c .head) (roomOf c)) calls ≡ map (λ c. c .answer) calls
-unfolding calls faulty header lines headerFits firstFault answerOr asLines split printable sameBytes sameFields nameBytes areNames among distinct
+unfolding calls faulty header lines headerFits headerTextAt rankedAt placeAt partStart leftmostFrom unprintablePlace wrongName firstFault answerOr asLines split printable sameBytes sameFields nameBytes areNames among distinct
 answered = refl
 
 left : map (λ c. textBy (factsBy (c .kind)) (c .head) (roomOf c)) calls ≡ map leaves calls

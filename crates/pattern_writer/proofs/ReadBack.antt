@@ -12,7 +12,8 @@ use lib.ListN.{length, getD, take, drop, length-take}
 use lib.Seq.{take-at, take-all, getD-take}
 use Rattle.sets.proofs.Truth.{true-yes}
 use Rattle.answer.specs.declared.Answer.{Answer}
-use Rattle.answer.specs.Answers.{acceptedWith, refusedAt}
+use Rattle.answer.specs.Answers.{acceptedWith, refusedAt, refusedIn}
+use Rattle.pattern_byte.specs.Header.{headerTextAt}
 use Rattle.answer.specs.Faults.{when}
 use Rattle.answer.proofs.FaultLaws.{Passed, numbered, accepted-passed, passed-first, passed-others, answer-accepted, room-filled, passed-past, passed-all}
 use Rattle.text.specs.Walk.{Outcome, accepted}
@@ -45,12 +46,12 @@ module _ (pattern header text : List ℕ) (a : T (accepts pattern header text)) 
   tested : Tested b header
   tested =
       let p = passed-others (ltb (length pattern) bufferLength) (refusedAt 2 0) (testFaults b header text) passed in
-      let q = passed-others (not (isPattern b)) (refusedAt 6 0) (when (not (headerFits (labelsIn b) header)) (refusedAt 12 1) ∷ roomFaults b header text) p in
+      let q = passed-others (not (isPattern b)) (refusedAt 6 0) (when (not (headerFits (labelsIn b) header)) (refusedIn 12 1 (headerTextAt header)) ∷ roomFaults b header text) p in
       record {
         is-pattern = true-yes (isPattern b) (not-false (isPattern b)
-            (passed-first (not (isPattern b)) (refusedAt 6 0) (when (not (headerFits (labelsIn b) header)) (refusedAt 12 1) ∷ roomFaults b header text) p));
+            (passed-first (not (isPattern b)) (refusedAt 6 0) (when (not (headerFits (labelsIn b) header)) (refusedIn 12 1 (headerTextAt header)) ∷ roomFaults b header text) p));
         fits = not-false (headerFits (labelsIn b) header)
-            (passed-first (not (headerFits (labelsIn b) header)) (refusedAt 12 1) (roomFaults b header text) q);
+            (passed-first (not (headerFits (labelsIn b) header)) (refusedIn 12 1 (headerTextAt header)) (roomFaults b header text) q);
       }
 
   counts : writeAnswer pattern header text ≡ acceptedWith (length (patternWritten header pattern))
@@ -92,8 +93,8 @@ module _ (pattern header text : List ℕ) (a : T (accepts pattern header text)) 
 
     answers : patternAnswer (patternWritten header pattern) buffer ≡ acceptedWith (beadsIn pattern)
     answers =
-        sym (answer-accepted (hostFaults buffer) (acceptedWith (beadsIn pattern)) (answerOf (patternText (patternWritten header pattern))) host
-        (sym (ap answerOf reads ∙ ap acceptedWith (ap (λ (l : List ℕ). getD l 1 0) gives ∙ getD-take bufferLength pattern 1 0 (omega arith)))))
+        sym (answer-accepted (hostFaults buffer) (acceptedWith (beadsIn pattern)) (answerOf (patternWritten header pattern) (patternText (patternWritten header pattern))) host
+        (sym (ap (answerOf (patternWritten header pattern)) reads ∙ ap acceptedWith (ap (λ (l : List ℕ). getD l 1 0) gives ∙ getD-take bufferLength pattern 1 0 (omega arith)))))
 
     fills : patternAfter (patternWritten header pattern) buffer ≡ b ++ drop bufferLength buffer
     fills =

@@ -13,12 +13,13 @@ use lib.ListN.{length, getD, take, drop, drop-of-length-le}
 use lib.Seq.{sets, sets-eq, length-sets, length-take-le}
 use Rattle.sets.proofs.Truth.{true-yes}
 use Rattle.answer.specs.declared.Answer.{Answer}
-use Rattle.answer.specs.Answers.{acceptedWith, refusedAt}
+use Rattle.answer.specs.Answers.{acceptedWith, refusedAt, refusedIn}
 use Rattle.answer.specs.Faults.{Fault, when, firstFault, answerOr, keptOr}
 use Rattle.answer.proofs.FaultLaws.{answer-refused, answer-accepted, room-kept, room-filled, first-below, stopped-below, passed-past, passed-all}
 use Rattle.writing.specs.Put.{Put}
 use Rattle.writing.proofs.PutLaws.{then}
 use Rattle.pattern_line.specs.Limits.{bufferLength}
+use Rattle.pattern_byte.specs.Header.{headerTextAt}
 use Rattle.pattern_buffer.specs.Meaning.{labelsIn}
 use Rattle.pattern_buffer.specs.Valid.{isPattern}
 use Rattle.pattern_buffer.proofs.Places.{passes-out}
@@ -98,6 +99,13 @@ module _ (b header text mid : List ℕ) (n : ℕ) (e : n ≡ length (written hea
 
 pub ruleset text-kit = (tested-pattern, count-fits, short-answer, short-text, long-answer, long-text)
 
+-- ---- the refusal of a header text
+
+pub header-refused : (header : List ℕ) (b : ℕ) (r : Answer) → b ≡ headerTextAt header → r ≡ refusedIn 12 1 b → r ≡ refusedIn 12 1 (headerTextAt header)
+header-refused header b r e q = q ∙ ap (refusedIn 12 1) e
+
+pub ruleset refuse-kit = (header-refused)
+
 -- ---- behind a test that is passed
 
 module _ (test : Bool) (answer : Answer) (faults : List Fault) (p : test ≡ false) where
@@ -117,16 +125,16 @@ module _ (b header : List ℕ) (s t : Bool) (e : s ≡ isPattern b) (f : s ≡ t
 
   pub tested-answer : (text : List ℕ) (r : Answer) → r ≡ answerUnder (roomFaults b header text) b header → r ≡ answerUnder (testFaults b header text) b header
   tested-answer text r q =
-      later-answer (not (isPattern b)) (refusedAt 6 0) (when (not (headerFits (labelsIn b) header)) (refusedAt 12 1) ∷ roomFaults b header text)
+      later-answer (not (isPattern b)) (refusedAt 6 0) (when (not (headerFits (labelsIn b) header)) (refusedIn 12 1 (headerTextAt header)) ∷ roomFaults b header text)
       (ap not (sym e ∙ f)) b header r
-      (later-answer (not (headerFits (labelsIn b) header)) (refusedAt 12 1) (roomFaults b header text) (ap not (sym g ∙ h)) b header r q)
+      (later-answer (not (headerFits (labelsIn b) header)) (refusedIn 12 1 (headerTextAt header)) (roomFaults b header text) (ap not (sym g ∙ h)) b header r q)
 
   pub tested-text : (text exit : List ℕ) → exit ≡ textUnderFaults (roomFaults b header text) b header text
       → exit ≡ textUnderFaults (testFaults b header text) b header text
   tested-text text exit q =
-      later-text (not (isPattern b)) (refusedAt 6 0) (when (not (headerFits (labelsIn b) header)) (refusedAt 12 1) ∷ roomFaults b header text)
+      later-text (not (isPattern b)) (refusedAt 6 0) (when (not (headerFits (labelsIn b) header)) (refusedIn 12 1 (headerTextAt header)) ∷ roomFaults b header text)
       (ap not (sym e ∙ f)) b header text exit
-      (later-text (not (headerFits (labelsIn b) header)) (refusedAt 12 1) (roomFaults b header text) (ap not (sym g ∙ h)) b header text exit q)
+      (later-text (not (headerFits (labelsIn b) header)) (refusedIn 12 1 (headerTextAt header)) (roomFaults b header text) (ap not (sym g ∙ h)) b header text exit q)
 
 pub ruleset fit-kit = (both-tested, tested-answer, tested-text)
 

@@ -1,3 +1,4 @@
 pub mod Writer
 pub mod Tested
 pub mod ReadBack
+pub mod HeaderFault

@@ -5,12 +5,13 @@ use mathlib.Core.List.{List, [], _∷_, _++_}
 use lib.Dec.{eqb, ltb}
 use lib.ListN.{length, take, drop}
 use Rattle.answer.specs.declared.Answer.{Answer}
-use Rattle.answer.specs.Answers.{acceptedWith, refusedAt}
+use Rattle.answer.specs.Answers.{acceptedWith, refusedAt, refusedIn}
 use Rattle.answer.specs.Faults.{Fault, when, firstFault, answerOr, keptOr}
 use Rattle.text.specs.Split.{split}
 use Rattle.text.specs.Lines.{TextLine, linesOf, whole}
 use Rattle.pattern_line.specs.Limits.{mostLine, bufferLength}
 use Rattle.pattern_header.specs.Header.{isHeader, labelCount}
+use Rattle.pattern_byte.specs.Header.{headerTextAt}
 use Rattle.pattern_buffer.specs.Meaning.{labelsIn}
 use Rattle.pattern_buffer.specs.Valid.{isPattern}
 use Rattle.pattern_texts.specs.Spelled.{textUnder}
@@ -40,17 +41,25 @@ patternWritten header pattern = written header (take bufferLength pattern)
 abbrev pub roomFaults : List ℕ → List ℕ → List ℕ → List Fault
 roomFaults b header text = when (ltb (length text) (length (written header b))) (refusedAt 8 0) ∷ []
 
--- 6, then 12, then 8, of a pattern buffer of its documented length. Whatever is wrong with the header text is 12, in line 1.
+-- 6, then 12, then 8, of a pattern buffer of its documented length. Whatever is wrong with the header text is 12, in line 1, with its byte.
 abbrev pub testFaults : List ℕ → List ℕ → List ℕ → List Fault
 testFaults b header text =
     when (not (isPattern b)) (refusedAt 6 0)
-    ∷ when (not (headerFits (labelsIn b) header)) (refusedAt 12 1)
+    ∷ when (not (headerFits (labelsIn b) header)) (refusedIn 12 1 (headerTextAt header))
     ∷ roomFaults b header text
 
 -- The refusals: 2, the pattern buffer is shorter than 2,074; then those.
 abbrev pub writeFaults : List ℕ → List ℕ → List ℕ → List Fault
 writeFaults pattern header text =
     when (ltb (length pattern) bufferLength) (refusedAt 2 0) ∷ testFaults (take bufferLength pattern) header text
+
+-- The same as they were before there was a byte.
+abbrev pub faultsBefore : List ℕ → List ℕ → List ℕ → List Fault
+faultsBefore pattern header text =
+    when (ltb (length pattern) bufferLength) (refusedAt 2 0)
+    ∷ when (not (isPattern (take bufferLength pattern))) (refusedAt 6 0)
+    ∷ when (not (headerFits (labelsIn (take bufferLength pattern)) header)) (refusedAt 12 1)
+    ∷ roomFaults (take bufferLength pattern) header text
 
 -- Accepted counts the output's bytes.
 abbrev pub writeAnswer : List ℕ → List ℕ → List ℕ → Answer

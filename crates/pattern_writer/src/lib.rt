@@ -4,11 +4,14 @@ ghost use mathlib.Core.Path.{_≡_};
 ghost use lib.Dec.{T};
 ghost use lib.ListN.{length};
 ghost use Rattle.writing.specs.Put.{Put};
+ghost use Rattle.answer.specs.Answers.{refusedIn};
+ghost use Rattle.pattern_byte.specs.Header.{headerTextAt};
 ghost use Rattle.pattern_buffer.specs.Valid.{isPattern};
 ghost use Rattle.pattern_texts.specs.Spelled.{textUnder};
 ghost use Rattle.pattern_writer.specs.Writer.{names, headerFits, written, roomFaults, testFaults, writeAnswer, textAfter};
 ghost use Rattle.pattern_writer.specs.Tested.{Tested, answerUnder, textUnderFaults};
 use answer::Answer;
+use pattern_byte::header_byte;
 use pattern_header::HeaderAnswer;
 use pattern_header::read_header;
 use pattern_layout::put_beads;
@@ -73,6 +76,13 @@ fn write_text(pattern: &[u16], header: &[u8], text: &mut [u8]) -> Answer
     answer::accepted(n as u16)
 }
 
+// The refusal of a header text, with the place in its line.
+fn refuse_header(header: &[u8]) -> Answer
+    ensures { λ r. ⌜ r ≡ refusedIn 12 1 (headerTextAt (now (header .entry))) ⌝ }
+{
+    answer::refused_in(12, 1, header_byte(header))
+}
+
 // Tests 6 and 12, and the rest, on a pattern buffer of its documented length.
 fn write_fit(pattern: &[u16], header: &[u8], text: &mut [u8]) -> Answer
     requires { ⌜ 0 < length (now pattern) ⌝ }
@@ -85,7 +95,7 @@ fn write_fit(pattern: &[u16], header: &[u8], text: &mut [u8]) -> Answer
         if fits {
             return write_text(pattern, header, text);
         }
-        return answer::refused(12, 1);
+        return refuse_header(header);
     }
     answer::refused(6, 0)
 }

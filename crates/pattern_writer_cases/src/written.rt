@@ -16,7 +16,7 @@ fn call(line: &[u8], header: &[u8], pattern: &[u16], buffer: &mut [u8]) -> Answe
     let p = outcome::sum_of_sums(pattern);
     let h = text_room::sum_of_sums(header);
     let a = lend(trial::column(line, 2), pattern, header, buffer);
-    outcome::print_answer(trial::column(line, 0), a.number, a.line, a.count);
+    outcome::print_answer(trial::column(line, 0), a.number, a.line, a.byte, a.count);
     outcome::print_claim(b"; pattern kept", outcome::sum_of_sums(pattern) == p);
     outcome::print_claim(b", header kept", text_room::sum_of_sums(header) == h);
     a

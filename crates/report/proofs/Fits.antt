@@ -108,12 +108,13 @@ lines-most beads (suc n) result f =
     omega (arith, lines-most beads n result (λ v h. f v (omega arith)), f n (omega arith))
 
 -- The line of a refusal.
-pub refusal-fits : (a : Answer) → a .number < 65536 → a .line < 65536 → length (refusalText a) ≤ 25
+pub refusal-fits : (a : Answer) → a .number < 65536 → a .line < 65536 → a .byte < 65536 → length (refusalText a) ≤ 36
 unfolding joined
-refusal-fits a h g =
+refusal-fits a h g f =
     let x = length-append (joined 32 (refusalFields a)) (10 ∷ []) in
-    let y = length-append (spell (a .number)) (32 ∷ 108 ∷ 105 ∷ 110 ∷ 101 ∷ 32 ∷ spell (a .line)) in
-    omega (arith, length-spell 4 (a .number) (omega arith), length-spell 4 (a .line) (omega arith))
+    let y = length-append (spell (a .number)) (32 ∷ 108 ∷ 105 ∷ 110 ∷ 101 ∷ 32 ∷ (spell (a .line) ++ (32 ∷ 98 ∷ 121 ∷ 116 ∷ 101 ∷ 32 ∷ spell (a .byte)))) in
+    let z = length-append (spell (a .line)) (32 ∷ 98 ∷ 121 ∷ 116 ∷ 101 ∷ 32 ∷ spell (a .byte)) in
+    omega (arith, length-spell 4 (a .number) (omega arith), length-spell 4 (a .line) (omega arith), length-spell 4 (a .byte) (omega arith))
 
 -- What an accepted judging prints.
 module _ (pattern log result work : List ℕ) (t : T (accepts pattern log result work)) where

@@ -94,32 +94,50 @@ pub header-put : (l new : List ℕ) (at r : ℕ) → Put headerBytes at l r new 
 unfolding joined
 header-put l new at r a = a
 
--- `refused ` and `line `
+-- Bytes, a number and a byte behind it.
+module _ (name l m new : List ℕ) (n end at i : ℕ) (a : Put name at l i m) where
+  pub named-room : at + length name + 6 < 2 ^ 64 → i + 6 < 2 ^ 64
+  named-room h = omega (arith, a .next)
+
+  pub named-put : (r : ℕ) → Put (spell n ++ (end ∷ [])) i m r new → Put (name ++ (spell n ++ (end ∷ []))) at l r new
+  named-put r b = then name (spell n ++ (end ∷ [])) l m new at i r a b
+
+  pub named-next : (r : ℕ) → r ≤ i + 6 → r ≤ at + length name + 6
+  named-next r h = omega (arith, a .next)
+
+pub ruleset named-kit = (named-room, named-put, named-next)
+
+-- `refused `, `line ` and `byte `
 abbrev refusedBytes : List ℕ
 refusedBytes = 114 ∷ 101 ∷ 102 ∷ 117 ∷ 115 ∷ 101 ∷ 100 ∷ 32 ∷ []
 
 abbrev lineBytes : List ℕ
 lineBytes = 108 ∷ 105 ∷ 110 ∷ 101 ∷ 32 ∷ []
 
-pub refusal-put : (l m n o new : List ℕ) (a : Answer) (at i j k r : ℕ) → Put refusedBytes at l i m
-    → Put (spell (a .number) ++ (32 ∷ [])) i m j n → Put lineBytes j n k o
-    → Put (spell (a .line) ++ (10 ∷ [])) k o r new → Put (refusalText a) at l r new
+abbrev byteBytes : List ℕ
+byteBytes = 98 ∷ 121 ∷ 116 ∷ 101 ∷ 32 ∷ []
+
+pub refusal-put : (l m n new : List ℕ) (a : Answer) (at i j r : ℕ) → Put (refusedBytes ++ (spell (a .number) ++ (32 ∷ []))) at l i m
+    → Put (lineBytes ++ (spell (a .line) ++ (32 ∷ []))) i m j n → Put (byteBytes ++ (spell (a .byte) ++ (10 ∷ []))) j n r new → Put (refusalText a) at l r new
 unfolding joined
-refusal-put l m n o new a at i j k r b c d e =
+refusal-put l m n new a at i j r b c d =
     simp append-assoc
     (simp append-assoc
-    at (four refusedBytes (spell (a .number) ++ (32 ∷ [])) lineBytes (spell (a .line) ++ (10 ∷ [])) l m n o new at i j k r b c d e))
+    at (then ((refusedBytes ++ (spell (a .number) ++ (32 ∷ []))) ++ (lineBytes ++ (spell (a .line) ++ (32 ∷ [])))) (byteBytes ++ (spell (a .byte) ++ (10 ∷ []))) l n new at j r
+    (then (refusedBytes ++ (spell (a .number) ++ (32 ∷ []))) (lineBytes ++ (spell (a .line) ++ (32 ∷ []))) l m n at i j b c) d))
 
--- Room for the number, for `line `, and for the line's number.
-module _ (l m : List ℕ) (at i : ℕ) (h : at + 25 < 2 ^ 64) (a : Put refusedBytes at l i m) where
-  pub refusal-number : i + 6 < 2 ^ 64
-  refusal-number = omega (arith, a .next)
+-- Room for each of the three.
+module _ (at i : ℕ) (h : at + 36 < 2 ^ 64) where
+  pub refusal-first : at + 8 + 6 < 2 ^ 64
+  refusal-first = omega arith
 
-  pub refusal-line : (j : ℕ) → j ≤ i + 6 → j + 5 < 2 ^ 64
-  refusal-line j g = omega (arith, a .next)
+  pub refusal-second : i ≤ at + 8 + 6 → i + 5 + 6 < 2 ^ 64
+  refusal-second g = omega arith
 
-  pub refusal-end : (n o : List ℕ) (j k : ℕ) → j ≤ i + 6 → Put lineBytes j n k o → k + 6 < 2 ^ 64
-  refusal-end n o j k g b = omega (arith, a .next, b .next)
+  pub refusal-third : (j : ℕ) → i ≤ at + 8 + 6 → j ≤ i + 5 + 6 → j + 5 + 6 < 2 ^ 64
+  refusal-third j g k = omega arith
+
+pub ruleset refusal-kit = (refusal-put, refusal-first, refusal-second, refusal-third)
 
 pub ruleset kit = (
   first-holds,
@@ -132,8 +150,4 @@ pub ruleset kit = (
   row-put,
   header-put,
   row-next,
-  refusal-put,
-  refusal-number,
-  refusal-line,
-  refusal-end,
 )

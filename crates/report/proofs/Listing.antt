@@ -3,7 +3,7 @@ use Prim.Native.Nat.{ℕ}
 use mathlib.Core.Path.{_≡_, refl}
 use mathlib.Core.List.{List, [], _∷_, _++_, map}
 use lib.ListN.{take, replicate}
-use Rattle.answer.specs.Answers.{refusedAt}
+use Rattle.answer.specs.Answers.{refusedAt, refusedIn}
 use Rattle.text.specs.Split.{joined}
 use Rattle.numbers.specs.Numbers.{spellIn}
 use Rattle.report.specs.Report.{headerText, rowText, refusalText}
@@ -38,11 +38,10 @@ cases =
     ∷ (record { line = stepLine 5 (2 ∷ 0 ∷ 1 ∷ 5 ∷ []); bytes = 53 ∷ 32 ∷ 50 ∷ 32 ∷ 48 ∷ 44 ∷ 49 ∷ 44 ∷ 53 ∷ 10 ∷ [] })
     -- 6 3 0,1,6
     ∷ (record { line = stepLine 6 (3 ∷ 0 ∷ 1 ∷ 6 ∷ []); bytes = 54 ∷ 32 ∷ 51 ∷ 32 ∷ 48 ∷ 44 ∷ 49 ∷ 44 ∷ 54 ∷ 10 ∷ [] })
-    -- refused 13 line 4
-    ∷ (record {
-      line = refusalText (refusedAt 13 4);
-      bytes = 114 ∷ 101 ∷ 102 ∷ 117 ∷ 115 ∷ 101 ∷ 100 ∷ 32 ∷ 49 ∷ 51 ∷ 32 ∷ 108 ∷ 105 ∷ 110 ∷ 101 ∷ 32 ∷ 52 ∷ 10 ∷ [];
-    })
+    -- refused 13 line 4 byte 5
+    ∷ (record { line = refusalText (refusedIn 13 4 5); bytes = 114 ∷ 101 ∷ 102 ∷ 117 ∷ 115 ∷ 101 ∷ 100 ∷ 32 ∷ 49 ∷ 51 ∷ 32 ∷ 108 ∷ 105 ∷ 110 ∷ 101 ∷ 32 ∷ 52 ∷ 32 ∷ 98 ∷ 121 ∷ 116 ∷ 101 ∷ 32 ∷ 53 ∷ 10 ∷ [] })
+    -- refused 10 line 0 byte 0
+    ∷ (record { line = refusalText (refusedAt 10 0); bytes = 114 ∷ 101 ∷ 102 ∷ 117 ∷ 115 ∷ 101 ∷ 100 ∷ 32 ∷ 49 ∷ 48 ∷ 32 ∷ 108 ∷ 105 ∷ 110 ∷ 101 ∷ 32 ∷ 48 ∷ 32 ∷ 98 ∷ 121 ∷ 116 ∷ 101 ∷ 32 ∷ 48 ∷ 10 ∷ [] })
     ∷ []
 
 -- Each line has its bytes.

@@ -29,11 +29,12 @@ pivotsWord beads row = cond (member (beads - 1) (getD row 0 0)) (joined 44 (map 
 abbrev pub rowText : ℕ → ℕ → List ℕ → List ℕ
 rowText beads step row = lineFrom (spell step ∷ (spell (getD row 0 0) ∷ (pivotsWord beads row ∷ [])))
 
--- `refused N line L`
+-- `refused N line L byte B`
 abbrev pub refusalFields : Answer → List (List ℕ)
 refusalFields a =
     (114 ∷ 101 ∷ 102 ∷ 117 ∷ 115 ∷ 101 ∷ 100 ∷ [])
-    ∷ (spell (a .number) ∷ ((108 ∷ 105 ∷ 110 ∷ 101 ∷ []) ∷ (spell (a .line) ∷ [])))
+    ∷ (spell (a .number)
+    ∷ ((108 ∷ 105 ∷ 110 ∷ 101 ∷ []) ∷ (spell (a .line) ∷ ((98 ∷ 121 ∷ 116 ∷ 101 ∷ []) ∷ (spell (a .byte) ∷ [])))))
 
 abbrev pub refusalText : Answer → List ℕ
 refusalText a = lineFrom (refusalFields a)

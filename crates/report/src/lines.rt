@@ -8,6 +8,8 @@ use writing::put_listed;
 use writing::put_number;
 ghost use Prim.Native.Nat.{_+_, _-_, _^_, _≤_, _<_, min};
 ghost use mathlib.Core.Path.{_≡_};
+ghost use mathlib.Core.List.{_++_, _∷_, []};
+ghost use Rattle.numbers.specs.Numbers.{spell};
 ghost use lib.ListN.{length};
 ghost use Rattle.sets.specs.Sets.{member};
 ghost use Rattle.writing.specs.Put.{Put};
@@ -20,15 +22,24 @@ pub fn put_header(out: &mut [u8], at: usize) -> usize
     put_bytes(out, at, b"vertex prefixes pivots\n")
 }
 
+// Bytes, a number, and a byte behind it.
+fn put_named(out: &mut [u8], at: usize, name: &[u8], n: u16, end: u8) -> usize
+    requires { ⌜ at + length (now name) + 6 < 2 ^ 64 ⌝ }
+    ensures { λ r. ⌜ Put (now (name .entry) ++ (spell n ++ (end ∷ []))) at (now (out .entry)) r (now (out .exit)) ⌝ }
+    ensures { λ r. ⌜ r ≤ at + length (now (name .entry)) + 6 ⌝ }
+{
+    let next = put_bytes(out, at, name);
+    put_ended(out, next, n, end)
+}
+
 // The line of a refusal.
 pub fn put_refusal(out: &mut [u8], at: usize, a: Answer) -> usize
-    requires { ⌜ at + 25 < 2 ^ 64 ⌝ }
+    requires { ⌜ at + 36 < 2 ^ 64 ⌝ }
     ensures { λ r. ⌜ Put (refusalText a) at (now (out .entry)) r (now (out .exit)) ⌝ }
 {
-    let next = put_bytes(out, at, b"refused ");
-    let next = put_ended(out, next, a.number, b' ');
-    let next = put_bytes(out, next, b"line ");
-    put_ended(out, next, a.line, b'\n')
+    let next = put_named(out, at, b"refused ", a.number, b' ');
+    let next = put_named(out, next, b"line ", a.line, b' ');
+    put_named(out, next, b"byte ", a.byte, b'\n')
 }
 
 // The line of a step under a pattern of this many beads, from the step's row in the result buffer.

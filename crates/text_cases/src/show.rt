@@ -1,14 +1,20 @@
 // What each function of `text` and `numbers` answers, in words.
 use fields::Field;
-use numbers::Number;
+use numbers::NumberRead;
 use text::lines::Line;
 use text::lines::LineFault;
 
-pub fn number(field: &[u8]) {
-    match numbers::read_number(field) {
-        Number::Value(value) => outcome::print_number(value as u64),
-        Number::Malformed => outcome::print_bytes(b"malformed"),
+// The number up to a comma, and where reading stopped.
+pub fn number(bytes: &[u8]) {
+    match numbers::read_number(bytes, b',') {
+        NumberRead::Ended(value, stop) => print_stop(value as u64, stop as u64),
+        NumberRead::Stopped(stop) => print_with(b"malformed, stopped at ", stop as u64),
     }
+}
+
+fn print_stop(value: u64, stop: u64) {
+    outcome::print_number(value);
+    print_with(b", stopped at ", stop);
 }
 
 // The first line of a text, with at most 240 bytes before its newline.

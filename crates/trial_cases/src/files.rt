@@ -21,7 +21,7 @@ pub fn show_marks() {
 }
 
 fn show_buffer(what: &[u8], s: &[u16]) {
-    outcome::print_answer(what, 0, 1, 65535);
+    outcome::print_answer(what, 0, 1, 241, 65535);
     outcome::print_buffer(0, s);
     outcome::print_buffer(10, s);
     outcome::print_line(b"");

@@ -22,8 +22,8 @@ refused-requires-3 c κs = search needs
 returns-3 : tie.Need-returns-3
 returns-3 c = search (needs, fault-kit)
 
-read-text-requires : tie.Need-read-text-requires
-read-text-requires c κs = search needs
+read-placed-requires : tie.Need-read-placed-requires
+read-placed-requires c κs = search needs
 
 same-length : tie.Need-same-length
 same-length c = search needs
@@ -41,6 +41,6 @@ read-log-spec =
     returns-2
     refused-requires-3
     returns-3
-    read-text-requires
+    read-placed-requires
     same-length
     returns-4)

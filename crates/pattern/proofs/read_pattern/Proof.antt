@@ -1,6 +1,6 @@
 -- The length of the lent buffer, then the text, then the copy.
-use borrow.Author.Needs.{needs}
 use Rattle.pattern.proofs.ReadingLaws.{pattern-kit}
+use borrow.Author.Needs.{needs}
 use Rattle.pattern.proofs.read_pattern.Statement.{statement}
 use Rattle.pattern.proofs.read_pattern.Tie as tie
 
@@ -22,8 +22,8 @@ enum-known-f c = search (needs, pattern-kit)
 number-of-requires : tie.Need-number-of-requires
 number-of-requires c κs = search (needs, pattern-kit)
 
-refused-requires-2 : tie.Need-refused-requires-2
-refused-requires-2 c κs = search (needs, pattern-kit)
+refuse-requires : tie.Need-refuse-requires
+refuse-requires c κs = search (needs, pattern-kit)
 
 enum-known-count : tie.Need-enum-known-count
 enum-known-count c = search (needs, pattern-kit)
@@ -56,7 +56,7 @@ read-pattern-spec =
     read-text-requires
     enum-known-f
     number-of-requires
-    refused-requires-2
+    refuse-requires
     enum-known-count
     slice-aggregate-copy
     copy-requires

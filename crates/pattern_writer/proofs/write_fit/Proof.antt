@@ -23,14 +23,14 @@ same-length c = search needs
 returns : tie.Need-returns
 returns c = (search (needs, fit-kit), search (needs, fit-kit))
 
-refused-requires : tie.Need-refused-requires
-refused-requires c κs = search needs
+refuse-header-requires : tie.Need-refuse-header-requires
+refuse-header-requires c κs = search needs
 
 returns-2 : tie.Need-returns-2
 returns-2 c = (search (needs, fault-kit), search (needs, fault-kit))
 
-refused-requires-2 : tie.Need-refused-requires-2
-refused-requires-2 c κs = search needs
+refused-requires : tie.Need-refused-requires
+refused-requires c κs = search needs
 
 returns-3 : tie.Need-returns-3
 returns-3 c = (search (needs, fault-kit), search (needs, fault-kit))
@@ -45,7 +45,7 @@ write-fit-spec =
     write-text-requires
     same-length
     returns
-    refused-requires
+    refuse-header-requires
     returns-2
-    refused-requires-2
+    refused-requires
     returns-3)

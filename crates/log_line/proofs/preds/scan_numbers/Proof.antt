@@ -1,12 +1,12 @@
 -- The loop keeps: what the numbers passed come to.
+use borrow.Author.Needs.{needs}
+use Rattle.log_line.proofs.PredLaws.{scanning-kit}
 use lib.ListN.{length}
 use mathlib.Core.Path.{_≡_}
 use mathlib.Core.Bool.{false}
 use Prim.Native.Nat.{_≤_, _+_, _-_}
 use Rattle.numbers.specs.Listed.{isNone}
 use Rattle.log_line.proofs.PredLaws.{Scanning}
-use borrow.Author.Needs.{needs}
-use Rattle.log_line.proofs.PredLaws.{scanning-kit}
 use Rattle.log_line.proofs.preds.scan_numbers.Statement.{statement}
 use Rattle.log_line.proofs.preds.scan_numbers.Tie as tie
 
@@ -18,21 +18,6 @@ abbrev μ-loop : tie.MeasureT-loop
 
 loop-holds : tie.Need-loop-holds Inv-loop μ-loop
 loop-holds c = search (needs, scanning-kit)
-
-sub-first-length : tie.Need-sub-first-length Inv-loop μ-loop
-sub-first-length c = search (needs, scanning-kit)
-
-part-first-length-start : tie.Need-part-first-length-start Inv-loop μ-loop
-part-first-length-start c = search (needs, scanning-kit)
-
-part-first-length-end : tie.Need-part-first-length-end Inv-loop μ-loop
-part-first-length-end c = search (needs, scanning-kit)
-
-first-length-requires : tie.Need-first-length-requires Inv-loop μ-loop
-first-length-requires c κs = search (needs, scanning-kit)
-
-add-e : tie.Need-add-e Inv-loop μ-loop
-add-e c = search (needs, scanning-kit)
 
 sub-read-number : tie.Need-sub-read-number Inv-loop μ-loop
 sub-read-number c = search (needs, scanning-kit)
@@ -61,6 +46,9 @@ keep-requires c κs = search (needs, scanning-kit)
 add-at : tie.Need-add-at Inv-loop μ-loop
 add-at c = search (needs, scanning-kit)
 
+add-at-2 : tie.Need-add-at-2 Inv-loop μ-loop
+add-at-2 c = search (needs, scanning-kit)
+
 add-k : tie.Need-add-k Inv-loop μ-loop
 add-k c = search (needs, scanning-kit)
 
@@ -68,13 +56,13 @@ loop-less : tie.Need-loop-less Inv-loop μ-loop
 loop-less c = search (needs, scanning-kit)
 
 loop-again : tie.Need-loop-again Inv-loop μ-loop
-loop-again c = (search (needs, scanning-kit), search (needs, scanning-kit), search needs, search needs, search (needs, scanning-kit))
+loop-again c = search (needs, scanning-kit)
 
 loop-less-2 : tie.Need-loop-less-2 Inv-loop μ-loop
 loop-less-2 c = search (needs, scanning-kit)
 
 loop-again-2 : tie.Need-loop-again-2 Inv-loop μ-loop
-loop-again-2 c = (search (needs, scanning-kit), search (needs, scanning-kit), search needs, search needs, search (needs, scanning-kit))
+loop-again-2 c = search (needs, scanning-kit)
 
 add-low : tie.Need-add-low Inv-loop μ-loop
 add-low c = search (needs, scanning-kit)
@@ -83,7 +71,7 @@ loop-less-3 : tie.Need-loop-less-3 Inv-loop μ-loop
 loop-less-3 c = search (needs, scanning-kit)
 
 loop-again-3 : tie.Need-loop-again-3 Inv-loop μ-loop
-loop-again-3 c = (search (needs, scanning-kit), search (needs, scanning-kit), search needs, search needs, search (needs, scanning-kit))
+loop-again-3 c = search (needs, scanning-kit)
 
 finish-requires : tie.Need-finish-requires Inv-loop μ-loop
 finish-requires c κs = search (needs, scanning-kit)
@@ -98,11 +86,6 @@ scan-numbers-spec =
     Inv-loop
     μ-loop
     loop-holds
-    sub-first-length
-    part-first-length-start
-    part-first-length-end
-    first-length-requires
-    add-e
     sub-read-number
     part-read-number-start
     part-read-number-end
@@ -112,6 +95,7 @@ scan-numbers-spec =
     enum-known-u
     keep-requires
     add-at
+    add-at-2
     add-k
     loop-less
     loop-again

@@ -1,0 +1,3 @@
+pub mod KnownLaws
+pub mod ByteAtFault
+pub mod Listing

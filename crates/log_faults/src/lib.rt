@@ -1,0 +1,1 @@
+// Theorems about the byte of a refused log text: no code.

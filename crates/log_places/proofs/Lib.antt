@@ -1,0 +1,3 @@
+pub mod HeaderLaws
+pub mod MalformedLaws
+pub mod Causes

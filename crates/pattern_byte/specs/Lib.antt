@@ -1,0 +1,2 @@
+pub mod Byte
+pub mod Header

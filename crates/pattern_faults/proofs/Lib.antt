@@ -1,0 +1,4 @@
+pub mod Listing
+pub mod Causes
+pub mod Located
+pub mod Faults

@@ -1,0 +1,1 @@
+// Theorems about the byte of a refused pattern text have no code.
