@@ -25,6 +25,9 @@ pattern_reader plain_read_pattern;
 log_reader plain_read_log;
 unsigned header_labels(const uint8_t *header, size_t header_len);
 
+/* places.c: where a header text is at fault that a pattern's writer refuses. */
+unsigned header_place(const uint8_t *header, size_t header_len);
+
 /* writer.c: the plain writers. */
 pattern_writer plain_write_pattern;
 log_writer plain_write_log;
@@ -40,8 +43,13 @@ int is_log(const uint16_t *log, unsigned labels);
 unsigned buffers_refused(const uint16_t *pattern, size_t pattern_len, const uint16_t *log, size_t log_len,
                          size_t result_len, size_t work_len);
 
+/* An answer without a byte: accepted, or refused for no single place. */
 static inline uint64_t answer(uint64_t number, uint64_t line, uint64_t count) {
     return number << 32 | line << 16 | count;
+}
+
+static inline uint64_t refusal(uint64_t number, uint64_t line, uint64_t byte) {
+    return byte << 48 | answer(number, line, 0);
 }
 
 /* inputs.c: a pattern's text and a log's text. */

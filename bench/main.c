@@ -67,7 +67,7 @@ static void call(int maker, int job) {
 
 /* Comparing. */
 
-static long compared, by_number[32], held;
+static long compared, by_number[32], placed, held;
 
 static void must_be_equal(int job) {
     for (int maker = PAPER; maker < MAKERS; maker++) {
@@ -80,6 +80,7 @@ static void must_be_equal(int job) {
     compared++;
     uint64_t answer = rooms[LIBRARY].answers[job];
     by_number[RUNIN_NUMBER(answer)]++;
+    placed += RUNIN_BYTE(answer) != 0;
     if (job == JUDGE) held += RUNIN_COUNT(answer);
 }
 
@@ -299,7 +300,7 @@ int main(int argc, char **argv) {
     for (int number = 0; number < 32; number++) {
         if (by_number[number]) printf("%s %ld of %d", number ? "," : "", by_number[number], number);
     }
-    printf("\n\n");
+    printf("; %ld with a byte\n\n", placed);
     measure_shapes();
     measure_sweep();
     measure_writes();

@@ -1,13 +1,6 @@
 /* Plain readers of both formats, written by hand in C, with document 01's refusals: a line is looked at once, split into its fields once,
  * and each number is read once. As in the library, the numbers go into a buffer of the reader's own first, so a refusal changes nothing. */
-#include "bench.h"
-
-#include <string.h>
-
-struct bytes {
-    const uint8_t *at;
-    size_t len;
-};
+#include "fields.h"
 
 /* How many bytes stand before the newline, or -1: over 240, no newline, or a byte outside 32 to 126. */
 static int line_length(const uint8_t *text, size_t left) {
@@ -19,42 +12,6 @@ static int line_length(const uint8_t *text, size_t left) {
     return -1;
 }
 
-/* Splits at every space; a line of 240 bytes has at most 241 fields. */
-static unsigned split(const uint8_t *line, size_t len, struct bytes *fields) {
-    unsigned count = 0;
-    size_t from = 0;
-    for (size_t i = 0; i <= len; i++) {
-        if (i < len && line[i] != ' ') continue;
-        fields[count++] = (struct bytes){line + from, i - from};
-        from = i + 1;
-    }
-    return count;
-}
-
-/* The decimal number, 0 to 65,535 without a leading zero, or -1. */
-static int32_t number(struct bytes field) {
-    if (field.len == 0 || field.len > 5 || (field.at[0] == '0' && field.len > 1)) return -1;
-    int32_t value = 0;
-    for (size_t i = 0; i < field.len; i++) {
-        if (field.at[i] < '0' || field.at[i] > '9') return -1;
-        value = 10 * value + field.at[i] - '0';
-    }
-    return value > 65535 ? -1 : value;
-}
-
-static int same(struct bytes a, const char *word) {
-    return a.len == strlen(word) && memcmp(a.at, word, a.len) == 0;
-}
-
-static int is_name(struct bytes field) {
-    if (field.len < 1 || field.len > 12) return 0;
-    for (size_t i = 0; i < field.len; i++) {
-        uint8_t b = field.at[i];
-        if (!(b >= '0' && b <= '9') && !(b >= 'a' && b <= 'z')) return 0;
-    }
-    return 1;
-}
-
 /* How many labels the header of a pattern names, or 0. */
 static unsigned pattern_header(const struct bytes *fields, unsigned count) {
     if (count < 5 || count > 20) return 0;
@@ -62,7 +19,7 @@ static unsigned pattern_header(const struct bytes *fields, unsigned count) {
     for (unsigned i = 4; i < count; i++) {
         if (!is_name(fields[i])) return 0;
         for (unsigned k = 4; k < i; k++) {
-            if (fields[k].len == fields[i].len && memcmp(fields[k].at, fields[i].at, fields[i].len) == 0) return 0;
+            if (equal(fields[k], fields[i])) return 0;
         }
     }
     return count - 4;
@@ -121,6 +78,10 @@ static uint64_t next_sets(const uint16_t *buffer) {
     return 0;
 }
 
+static uint64_t pattern_refusal(const uint8_t *text, size_t text_len, unsigned number, unsigned line, const uint16_t *buffer) {
+    return refusal(number, line, pattern_place(text, text_len, number, line, buffer));
+}
+
 uint64_t plain_read_pattern(const uint8_t *text, size_t text_len, uint16_t *pattern, size_t pattern_len) {
     struct bytes fields[MOST_LINE + 1];
     uint16_t buffer[RUNIN_PATTERN_LENGTH] = {0};
@@ -129,21 +90,21 @@ uint64_t plain_read_pattern(const uint8_t *text, size_t text_len, uint16_t *patt
     unsigned line = 1, state = 0;
     for (size_t at = 0; at < text_len; line++) {
         int len = line_length(text + at, text_len - at);
-        if (len < 0) return answer(RUNIN_PATTERN_LINE, line, 0);
+        if (len < 0) return pattern_refusal(text, text_len, RUNIN_PATTERN_LINE, line, buffer);
         unsigned count = split(text + at, len, fields);
         if (line == 1) {
             buffer[0] = pattern_header(fields, count);
-            if (buffer[0] == 0) return answer(RUNIN_PATTERN_HEADER, 1, 0);
+            if (buffer[0] == 0) return pattern_refusal(text, text_len, RUNIN_PATTERN_HEADER, 1, buffer);
         } else {
-            unsigned refusal = pattern_row(fields, count, buffer[0], state, buffer);
-            if (refusal) return answer(refusal, line, 0);
+            unsigned number = pattern_row(fields, count, buffer[0], state, buffer);
+            if (number) return pattern_refusal(text, text_len, number, line, buffer);
             state = buffer[STATE_COUNTS + buffer[1] - 1] - 1;
         }
         at += len + 1;
     }
     if (buffer[1] == 0) return answer(RUNIN_PATTERN_ORDER, 1, 0);
     uint64_t late = next_sets(buffer);
-    if (late) return late;
+    if (late) return pattern_refusal(text, text_len, RUNIN_NUMBER(late), RUNIN_LINE(late), buffer);
     memcpy(pattern, buffer, sizeof buffer);
     return answer(0, 0, buffer[1]);
 }
@@ -204,23 +165,27 @@ static unsigned log_step(const struct bytes *fields, unsigned fields_count, cons
     return 0;
 }
 
+static uint64_t log_refusal(const uint8_t *text, size_t text_len, unsigned number, unsigned line, const unsigned *place, const uint16_t *buffer) {
+    return refusal(number, line, log_place(text, text_len, number, line, place, buffer));
+}
+
 uint64_t plain_read_log(const uint8_t *text, size_t text_len, uint16_t label_count, uint16_t *log, size_t log_len) {
     struct bytes fields[MOST_LINE + 1];
     uint16_t buffer[RUNIN_LOG_LENGTH] = {0};
-    unsigned place[4];
+    unsigned place[4] = {0};
     if (log_len < RUNIN_LOG_LENGTH) return answer(RUNIN_LOG_SHORT, 0, 0);
     if (label_count < 1 || label_count > MOST_LABELS) return answer(RUNIN_LABEL_COUNT, 0, 0);
     if (text_len == 0 || text_len > 65535) return answer(RUNIN_LOG_SIZE, 0, 0);
     unsigned line = 1;
     for (size_t at = 0; at < text_len; line++) {
         int len = line_length(text + at, text_len - at);
-        if (len < 0) return answer(RUNIN_LOG_LINE, line, 0);
+        if (len < 0) return log_refusal(text, text_len, RUNIN_LOG_LINE, line, place, buffer);
         unsigned count = split(text + at, len, fields);
         if (line == 1) {
-            if (!log_header(fields, count, place)) return answer(RUNIN_LOG_HEADER, 1, 0);
+            if (!log_header(fields, count, place)) return log_refusal(text, text_len, RUNIN_LOG_HEADER, 1, place, buffer);
         } else {
-            unsigned refusal = log_step(fields, count, place, label_count, line - 2, buffer);
-            if (refusal) return answer(refusal, line, 0);
+            unsigned number = log_step(fields, count, place, label_count, line - 2, buffer);
+            if (number) return log_refusal(text, text_len, number, line, place, buffer);
         }
         at += len + 1;
     }

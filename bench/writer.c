@@ -62,7 +62,7 @@ uint64_t plain_write_pattern(const uint16_t *pattern, size_t pattern_len, const 
                              uint8_t *text, size_t text_len) {
     if (pattern_len < RUNIN_PATTERN_LENGTH) return answer(RUNIN_PATTERN_SHORT, 0, 0);
     if (!is_pattern(pattern)) return answer(RUNIN_NO_PATTERN, 0, 0);
-    if (header_labels(header, header_len) != pattern[0]) return answer(RUNIN_PATTERN_HEADER, 1, 0);
+    if (header_labels(header, header_len) != pattern[0]) return refusal(RUNIN_PATTERN_HEADER, 1, header_place(header, header_len));
     size_t length = header_len + rows_length(pattern);
     if (text_len < length) return answer(RUNIN_TEXT_SHORT, 0, 0);
     memcpy(text, header, header_len);

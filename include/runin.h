@@ -28,11 +28,29 @@ extern "C" {
 /* A row of the result: ten numbers starting at ten times the step's number. */
 #define RUNIN_ROW_LENGTH 10u
 
-/* An answer is number, line, count in one u64. Number 0 is accepted; any other is a refusal. A refusal has count 0, line 0 except where a
- * line of a text is at fault, and leaves every lent buffer as it was. Each of the three is below 65,536. */
-#define RUNIN_NUMBER(answer) ((uint32_t)((answer) >> 32))
+/* An answer is byte, number, line, count in one u64, each below 65,536. Number 0 is accepted; any other is a refusal. A refusal has count 0,
+ * line 0 except where a line of a text is at fault, byte 0 except where a single place in that line is, and leaves every lent buffer as it was.
+ *
+ * Earlier answers had no byte, and a shift by 32 alone gave the number. It no longer does: use RUNIN_NUMBER, or mask as it does. */
+#define RUNIN_BYTE(answer) ((uint32_t)((answer) >> 48))
+#define RUNIN_NUMBER(answer) ((uint32_t)(((answer) >> 32) & 0xffffu))
 #define RUNIN_LINE(answer) ((uint32_t)(((answer) >> 16) & 0xffffu))
 #define RUNIN_COUNT(answer) ((uint32_t)((answer) & 0xffffu))
+
+/* The byte is where in the line the field at fault starts: 1 plus the bytes of the line before it. An empty field has the place where it would
+ * begin, so behind a last space it is the line's length plus 1. It is at most 241. Of several causes of one number, the first here decides:
+ *
+ *   11, 21          line over 240 bytes: 0; newline missing: 0; the first byte outside 32 to 126, its own place; below the header: a wrong number
+ *                   of fields: 0; the leftmost field that is wrong (preds is one field, whichever of its numbers is odd)
+ *   12, 22          the leftmost name that is wrong, repeats an earlier label or column, or is too many; names missing: 0
+ *   13              nothing after the header (line 1): 0; the bead; the state; final
+ *   14, 15, 16      the rule; the leftmost next set with a state that the bead lacks; the leftmost without exactly one state
+ *   23, 24, 25      vertex; preds, also where it is -; labels
+ *   26              no step at all (line 1): 0; vertex for a step over 1,023, preds for a link too many; where both are, the one further left
+ *   12 of a writer  not exactly one newline, at the end: 0; line over 240 bytes: 0; the first byte outside 32 to 126; the leftmost name as
+ *                   above; names missing: 0; another label count: 0
+ *
+ * Every other answer has byte 0, also each one of runin_judge. */
 
 /* The host program is at fault. */
 #define RUNIN_LOG_SHORT 1      /* log buffer shorter than RUNIN_LOG_LENGTH */

@@ -39,9 +39,27 @@ size_t load(const char *path, uint8_t *text, size_t size)
     return length;
 }
 
-int refused(uint64_t answer, FILE *out)
+/* The line with this number, and a mark under the place. A byte that may not stand there is shown as a question mark. */
+static void mark(const uint8_t *text, size_t length, uint32_t line, uint32_t byte, FILE *out)
 {
-    if (RUNIN_NUMBER(answer))
-        fprintf(out, "refused %u line %u: %s\n", RUNIN_NUMBER(answer), RUNIN_LINE(answer), reasons[RUNIN_NUMBER(answer)]);
-    return RUNIN_NUMBER(answer) != 0;
+    size_t at = 0;
+    for (uint32_t i = 1; i < line; i++) {
+        while (at < length && text[at] != '\n')
+            at++;
+        at++;
+    }
+    for (; at < length && text[at] != '\n'; at++)
+        fputc(text[at] < 32 || text[at] > 126 ? '?' : text[at], out);
+    fprintf(out, "\n%*s\n", (int)byte, "^");
+}
+
+int refused(uint64_t answer, const uint8_t *text, size_t length, FILE *out)
+{
+    uint32_t number = RUNIN_NUMBER(answer), line = RUNIN_LINE(answer), byte = RUNIN_BYTE(answer);
+    if (number == 0)
+        return 0;
+    fprintf(out, "refused %u line %u byte %u: %s\n", number, line, byte, reasons[number]);
+    if (text && byte)
+        mark(text, length, line, byte, out);
+    return 1;
 }

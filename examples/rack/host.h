@@ -9,7 +9,8 @@
  * never taken for a whole one. */
 size_t load(const char *path, uint8_t *text, size_t size);
 
-/* Is this answer a refusal? Prints it if so. */
-int refused(uint64_t answer, FILE *out);
+/* Is this answer a refusal? Prints it if so, and where a single place of the text is at fault, its line with a mark under the place. The text is
+ * the one that was read, or NULL after a call that reads none. */
+int refused(uint64_t answer, const uint8_t *text, size_t length, FILE *out);
 
 #endif

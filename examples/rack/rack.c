@@ -11,15 +11,15 @@ int main(int argc, char **argv)
 {
     size_t length = load(argc > 1 ? argv[1] : "pattern.txt", pattern_text, sizeof pattern_text);
     uint64_t beads = runin_read_pattern(pattern_text, length, pattern_buffer, RUNIN_PATTERN_LENGTH);
-    if (refused(beads, stdout))
+    if (refused(beads, pattern_text, length, stdout))
         return 1;
     length = load(argc > 2 ? argv[2] : "log.txt", log_text, sizeof log_text);
     uint64_t steps = runin_read_log(log_text, length, pattern_buffer[0], log_buffer, RUNIN_LOG_LENGTH);
-    if (refused(steps, stdout))
+    if (refused(steps, log_text, length, stdout))
         return 1;
     uint64_t held = runin_judge(pattern_buffer, RUNIN_PATTERN_LENGTH, log_buffer, RUNIN_LOG_LENGTH,
                                 result, RUNIN_RESULT_LENGTH, work, RUNIN_WORK_LENGTH);
-    if (refused(held, stdout))
+    if (refused(held, NULL, 0, stdout))
         return 1;
     puts("vertex prefixes pivots");
     for (uint32_t step = 0; step < RUNIN_COUNT(steps); step++) {

@@ -12,11 +12,11 @@ static uint16_t log_buffer[RUNIN_LOG_LENGTH];
 int main(int argc, char **argv)
 {
     size_t length = load(argc > 1 ? argv[1] : "log.txt", text, sizeof text);
-    if (refused(runin_read_log(text, length, LABEL_COUNT, log_buffer, RUNIN_LOG_LENGTH), stderr))
+    if (refused(runin_read_log(text, length, LABEL_COUNT, log_buffer, RUNIN_LOG_LENGTH), text, length, stderr))
         return 1;
     /* All of the log is in its buffer now, so the text buffer is free for the new text. */
     uint64_t written = runin_write_log(log_buffer, RUNIN_LOG_LENGTH, LABEL_COUNT, text, sizeof text);
-    if (refused(written, stderr))
+    if (refused(written, NULL, 0, stderr))
         return 1;
     fwrite(text, 1, RUNIN_COUNT(written), stdout);
     return fflush(stdout) || ferror(stdout) ? 2 : 0;

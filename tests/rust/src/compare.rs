@@ -55,7 +55,7 @@ impl Comparison {
     }
 
     pub fn read_pattern(&mut self, text: &[u8], length: usize) {
-        let expected = if length < pattern::LENGTH { refuse(2, 0) } else { pattern::read(text) };
+        let expected = if length < pattern::LENGTH { refuse(2) } else { pattern::read(text) };
         let mut lent = Lent::new(&mut self.noise, &[], length);
         let mut lent_text = text.to_vec();
         let answer = library::read_pattern(&mut lent_text, lent.part());
@@ -70,9 +70,9 @@ impl Comparison {
 
     pub fn read_log(&mut self, text: &[u8], label_count: u16, length: usize) {
         let expected = if length < log::LENGTH {
-            refuse(1, 0)
+            refuse(1)
         } else if !(1..=16).contains(&label_count) {
-            refuse(5, 0)
+            refuse(5)
         } else {
             log::read(text, label_count)
         };
@@ -112,7 +112,7 @@ impl Comparison {
 
     /// Writes from a buffer of this length that starts with these numbers into a text buffer of that length. Gives the expected number.
     pub fn write_pattern(&mut self, pattern: &[u16], length: usize, header: &[u8], text_length: usize) -> u16 {
-        let written = if length < pattern::LENGTH { refuse(2, 0) } else { pattern::write(pattern, header) };
+        let written = if length < pattern::LENGTH { refuse(2) } else { pattern::write(pattern, header) };
         let mut lent = Lent::new(&mut self.noise, pattern, length);
         let mut lent_header = header.to_vec();
         let mut text = Lent::new(&mut self.noise, &[], text_length);
@@ -120,6 +120,7 @@ impl Comparison {
         let given = Given { answer, only_read: lent.unchanged() && lent_header == header, text };
         let read_back = |text: &mut [u8]| {
             let mut again = vec![0; pattern::LENGTH];
+            // Accepted: number and byte are 0.
             library::read_pattern(text, &mut again) >> 32 == 0 && again == pattern[..pattern::LENGTH]
         };
         let input = || format!("pattern {}, header \"{}\", text buffer of {text_length}", in_use(pattern), header.escape_ascii());
@@ -129,9 +130,9 @@ impl Comparison {
     /// The same for a log.
     pub fn write_log(&mut self, log: &[u16], length: usize, label_count: u16, text_length: usize) -> u16 {
         let written = if length < log::LENGTH {
-            refuse(1, 0)
+            refuse(1)
         } else if !(1..=16).contains(&label_count) {
-            refuse(5, 0)
+            refuse(5)
         } else {
             log::write(log, label_count)
         };
@@ -141,6 +142,7 @@ impl Comparison {
         let given = Given { answer, only_read: lent.unchanged(), text };
         let read_back = |text: &mut [u8]| {
             let mut again = vec![0; log::LENGTH];
+            // Accepted: number and byte are 0.
             library::read_log(text, label_count, &mut again) >> 32 == 0 && again == log[..log::LENGTH]
         };
         let input = || format!("log {}, {label_count} labels, text buffer of {text_length}", in_use(log));
@@ -160,7 +162,7 @@ impl Comparison {
         if let Ok(written) = &written {
             self.tally.count_room(call, written.len(), text.length);
         }
-        let expected = written.and_then(|written| if text.length < written.len() { refuse(8, 0) } else { Ok(written) });
+        let expected = written.and_then(|written| if text.length < written.len() { refuse(8) } else { Ok(written) });
         let kept = only_read && text.became(expected.as_deref().unwrap_or(&[]));
         let number = expected.as_ref().map_or_else(|refusal| refusal.number, |_| 0);
         self.settle(call, expected.as_ref().map(Vec::len).map_err(|&refusal| refusal), answer, kept, &input);
@@ -181,6 +183,14 @@ impl Comparison {
         }
     }
 
+    /// The same for a whole refusal: number, line, byte.
+    pub fn must_refuse<T>(&mut self, refusal: (u16, usize, usize), given: &Result<T, Refusal>, what: &str) {
+        let given = given.as_ref().err().map_or((0, 0, 0), |given| (given.number, given.line, given.byte));
+        if refusal != given {
+            self.differs(|| println!("DIFFERENCE in the reference: {refusal:?} expected, {given:?} given: {what}"));
+        }
+    }
+
     /// What the papers ask for, of the reference.
     pub fn must_hold(&mut self, holds: bool, what: &str) {
         if !holds {
@@ -197,15 +207,20 @@ impl Comparison {
     }
 
     fn settle(&mut self, call: &'static str, expected: Result<usize, Refusal>, answer: u64, kept: bool, input: impl Fn() -> String) {
-        let (number, line, count) = match expected {
-            Ok(count) => (0, 0, count),
-            Err(refusal) => (refusal.number, refusal.line, 0),
+        let (number, line, byte, count) = match expected {
+            Ok(count) => (0, 0, 0, count),
+            Err(refusal) => (refusal.number, refusal.line, refusal.byte, 0),
         };
         self.tally.count_answer(call, number);
-        if answer != (u64::from(number) << 32) + ((line as u64) << 16) + count as u64 || !kept {
+        if let Err(refusal) = expected {
+            self.tally.count_cause(call, refusal);
+        }
+        if answer != ((byte as u64) << 48) + (u64::from(number) << 32) + ((line as u64) << 16) + count as u64 || !kept {
             self.differs(|| {
-                let (n, l, c) = (answer >> 32, answer >> 16 & 0xffff, answer & 0xffff);
-                println!("DIFFERENCE in {call}: {number} line {line} count {count} expected, {n} line {l} count {c} given");
+                let (b, n, l, c) = (answer >> 48, answer >> 32 & 0xffff, answer >> 16 & 0xffff, answer & 0xffff);
+                println!(
+                    "DIFFERENCE in {call}: {number} line {line} byte {byte} count {count} expected, {n} line {l} byte {b} count {c} given"
+                );
                 println!("  buffers as expected: {kept}; {}", input());
             });
         }
@@ -229,13 +244,13 @@ struct Judged {
 
 fn judged(pattern: &[u16], log: &[u16], lengths: [usize; 4]) -> Result<Judged, Refusal> {
     if let Some(short) = (0..4).find(|&i| lengths[i] < LENGTHS[i]) {
-        return refuse(short as u16 + 1, 0);
+        return refuse(short as u16 + 1);
     }
     let Some(pattern) = Pattern::of_buffer(pattern) else {
-        return refuse(6, 0);
+        return refuse(6);
     };
     let Some(log) = Log::of_buffer(log, pattern.labels as u16) else {
-        return refuse(7, 0);
+        return refuse(7);
     };
     let rows = judge::rows(&pattern, &log);
     let beads = pattern.beads.len();

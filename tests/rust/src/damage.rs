@@ -31,6 +31,25 @@ pub fn text(random: &mut Random, text: &[u8], limit: usize) -> Vec<u8> {
     }
 }
 
+/// The text with two to four damages in one line.
+pub fn one_line(random: &mut Random, text: &[u8]) -> Vec<u8> {
+    let mut lines = split(text);
+    let i = random.below(lines.len());
+    for _ in 0..random.within(2, 4) {
+        if lines[i].is_empty() {
+            break;
+        }
+        let line = lines[i].clone();
+        let at = random.below(line.len());
+        lines[i] = match random.below(10) {
+            0..=1 => [&line[..at], &[random.pick(BYTES)], &line[at + 1..]].concat(),
+            2 => stretched(random, &line),
+            _ => fields(random, &line),
+        };
+    }
+    lines.concat()
+}
+
 /// Grown by its own lines to about the limit: a size that is just right leaves the fault to a line.
 fn grown(random: &mut Random, text: &[u8], limit: usize) -> Vec<u8> {
     text.iter().copied().cycle().take(random.within(limit - 1, limit + 1)).collect()

@@ -1,6 +1,6 @@
 //! Logs: the text format, and the log buffer.
 
-use crate::text::{fields, lines, number, refuse, Refusal};
+use crate::text::{fields, lines, number, refuse, unless, Refusal};
 
 pub const LENGTH: usize = 7_170;
 pub const MOST_BYTES: usize = 65_535;
@@ -32,22 +32,19 @@ pub struct Log {
 /// Reads a text under a label count of 1 to 16, or gives its refusal: 20 to 26.
 pub fn read(text: &[u8], label_count: u16) -> Result<Log, Refusal> {
     if text.is_empty() || text.len() > MOST_BYTES {
-        return refuse(20, 0);
+        return refuse(20);
     }
     let lines = lines(text);
-    let columns = match columns(lines[0]) {
-        Ok(columns) => columns,
-        Err(number) => return refuse(number, 1),
-    };
+    let columns = columns(lines[0])?;
     if lines.len() == 1 {
-        return refuse(26, 1);
+        unless(26, 1, &[("no step at all", 0)])?;
     }
     let mut log = Log { steps: Vec::new() };
+    let mut links = 0;
     for (index, line) in lines.iter().enumerate().skip(1) {
-        match read_step(line, columns, log.steps.len(), log.link_count(), label_count) {
-            Ok(step) => log.steps.push(step),
-            Err(number) => return refuse(number, index + 1),
-        }
+        let step = read_step(line, columns, index - 1, links, label_count)?;
+        links += step.links.len();
+        log.steps.push(step);
     }
     Ok(log)
 }
@@ -56,59 +53,112 @@ pub fn read(text: &[u8], label_count: u16) -> Result<Log, Refusal> {
 pub fn write(buffer: &[u16], label_count: u16) -> Result<Vec<u8>, Refusal> {
     match Log::of_buffer(buffer, label_count) {
         Some(log) => Ok(log.text(WRITTEN)),
-        None => refuse(7, 0),
+        None => refuse(7),
     }
 }
 
-/// The column of each of the four names, or the number of the header's refusal.
-fn columns(line: &[u8]) -> Result<[usize; 4], u16> {
-    let fields = fields(line).ok_or(21u16)?;
-    let mut columns = [0; 4];
-    for (column, name) in columns.iter_mut().zip(NAMES) {
-        *column = fields.iter().position(|field| *field == name.as_bytes()).ok_or(22u16)?;
+/// The column of each of the four names, or the header's refusal.
+fn columns(line: &[u8]) -> Result<[usize; 4], Refusal> {
+    let (fields, causes) = fields(line);
+    unless(21, 1, &causes)?;
+    let column = |name: &str| fields.iter().position(|field| field.bytes == name.as_bytes());
+    let columns = NAMES.map(column);
+    let mut causes = Vec::new();
+    for (i, field) in fields.iter().enumerate() {
+        if i >= NAMES.len() {
+            causes.push(("fifth name", field.place));
+        } else if !NAMES.iter().any(|name| field.bytes == name.as_bytes()) {
+            causes.push(("none of the four", field.place));
+        } else if !columns.contains(&Some(i)) {
+            // A column is where its name stands first.
+            causes.push(("name repeated", field.place));
+        }
     }
-    // Four names found in four fields: each stands there once.
-    (fields.len() == 4).then_some(columns).ok_or(22)
+    if columns.contains(&None) {
+        causes.push(("names missing", 0));
+    }
+    unless(22, 1, &causes)?;
+    Ok(columns.map(Option::unwrap_or_default))
 }
 
-/// The step of one line below the header, which is to have this number, or the number of its refusal.
-fn read_step(line: &[u8], columns: [usize; 4], step: usize, links_before: usize, label_count: u16) -> Result<Step, u16> {
-    let fields = fields(line).ok_or(21u16)?;
+/// The step of one line below the header, which is to have this number, or its refusal.
+fn read_step(line: &[u8], columns: [usize; 4], step: usize, links_before: usize, label_count: u16) -> Result<Step, Refusal> {
+    let at = step + 2;
+    let (fields, mut causes) = fields(line);
     if fields.len() != 4 {
-        return Err(21);
+        causes.push(("number of fields", 0));
     }
-    let [vertex, board, labels, preds] = columns.map(|column| fields[column]);
-    let vertex = number(vertex).ok_or(21u16)?;
-    let board = number(board).filter(|&board| board <= 255).ok_or(21u16)?;
-    let labels = number(labels).ok_or(21u16)?;
-    let links: Option<Vec<u16>> = match preds {
-        b"-" => Some(Vec::new()),
-        _ => preds.split(|&byte| byte == b',').map(number).collect(),
+    let (mut vertex, mut board, mut labels, mut links) = (None, None, None, None);
+    for (i, field) in fields.iter().enumerate() {
+        let value = number(field.bytes);
+        let cause = match columns.iter().position(|&column| column == i) {
+            Some(0) => {
+                vertex = value;
+                value.is_none().then_some("vertex no number")
+            }
+            Some(1) => {
+                board = value;
+                value.map_or(Some("board no number"), |board| (board > 255).then_some("board over 255"))
+            }
+            Some(2) => {
+                labels = value;
+                value.is_none().then_some("labels no number")
+            }
+            Some(_) => {
+                links = linked(field.bytes);
+                links.is_none().then_some("preds no list")
+            }
+            None => None,
+        };
+        causes.extend(cause.map(|cause| (cause, field.place)));
+    }
+    unless(21, at, &causes)?;
+    let (Some(vertex), Some(board), Some(labels), Some(links)) = (vertex, board, labels, links) else {
+        unreachable!("four fields, and each has its value");
     };
-    let links = links.ok_or(21u16)?;
+    let place = columns.map(|column| fields[column].place);
+    let one = |number: u16, cause: Option<&'static str>, column: usize| match cause {
+        Some(cause) => unless(number, at, &[(cause, place[column])]),
+        None => Ok(()),
+    };
 
-    if vertex as usize != step {
-        return Err(23);
-    }
-    let rising = links.windows(2).all(|pair| pair[0] < pair[1]);
-    let smaller = links.iter().all(|&link| (link as usize) < step);
-    if links.is_empty() != (step == 0) || !rising || !smaller {
-        return Err(24);
-    }
-    if (step == 0 && labels != 0) || labels as u32 >> label_count != 0 {
-        return Err(25);
-    }
-    if links.len() > MOST_LINKS_A_STEP || step >= MOST_STEPS || links_before + links.len() > MOST_LINKS {
-        return Err(26);
+    one(23, (vertex as usize != step).then_some("vertex"), 0)?;
+    let wrong_links = match links[..] {
+        [] => (step > 0).then_some("none past step 0"),
+        _ if step == 0 => Some("links of step 0"),
+        _ if links.windows(2).any(|pair| pair[0] >= pair[1]) => Some("not rising"),
+        _ => links.iter().any(|&link| link as usize >= step).then_some("not smaller"),
+    };
+    one(24, wrong_links, 3)?;
+    let wrong_labels = match step {
+        0 if labels != 0 => Some("labels of step 0"),
+        _ => (labels as u32 >> label_count != 0).then_some("past the label count"),
+    };
+    one(25, wrong_labels, 2)?;
+
+    let many = if links.len() > MOST_LINKS_A_STEP {
+        Some("ninth link")
+    } else {
+        (links_before + links.len() > MOST_LINKS).then_some("4,097th link")
+    };
+    match (step >= MOST_STEPS, many) {
+        (true, None) => one(26, Some("step over 1,023"), 0)?,
+        (false, many) => one(26, many, 3)?,
+        (true, Some(_)) if place[0] < place[3] => one(26, Some("both, vertex further left"), 0)?,
+        (true, Some(_)) => one(26, Some("both, preds further left"), 3)?,
     }
     Ok(Step { board, labels, links })
 }
 
-impl Log {
-    pub fn link_count(&self) -> usize {
-        self.steps.iter().map(|step| step.links.len()).sum()
+/// The links of a `preds` field: none, or numbers joined by single commas.
+fn linked(preds: &[u8]) -> Option<Vec<u16>> {
+    match preds {
+        b"-" => Some(Vec::new()),
+        _ => preds.split(|&byte| byte == b',').map(number).collect(),
     }
+}
 
+impl Log {
     /// A text that gives this log, if one does, with the columns in this order.
     pub fn text(&self, order: [usize; 4]) -> Vec<u8> {
         let line = |values: [String; 4]| order.map(|i| values[i].clone()).join(" ") + "\n";

@@ -9,6 +9,7 @@ mod library;
 mod log;
 mod pattern;
 mod random;
+mod script;
 mod tally;
 mod text;
 mod trials;

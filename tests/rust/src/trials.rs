@@ -1,5 +1,6 @@
 //! What is tried, and how often.
 
+mod cases;
 mod writes;
 
 use crate::compare::{Comparison, LENGTHS};
@@ -55,12 +56,14 @@ pub fn readings_written_out(times: usize) -> bool {
 /// Every trial of the library, each with its count.
 pub fn all() -> Tally {
     let mut trials = Trials { comparison: Comparison::new(), random: Random::new(0x2545_0001_1957) };
+    trials.stored_cases();
     trials.pattern_texts(5_000, "sound", 0, any_pattern);
     trials.pattern_texts(100, "at all limits", 0, full_pattern);
     trials.pattern_texts(100, "with 17 labels", 0, |random| generate::pattern(random, 17, 2, &[2]));
     trials.pattern_texts(100, "with 9 beads", 0, |random| generate::pattern(random, 2, 9, &[2]));
     trials.pattern_texts(100, "with 17 states in a bead", 0, one_state_too_many);
     trials.pattern_texts(30_000, "damaged one to three times", 3, any_pattern);
+    trials.damaged_lines(20_000);
     trials.log_texts(5_000, "sound", 0, |random, labels| any_log(random, labels, 40));
     trials.log_texts(30_000, "damaged one to three times", 3, |random, labels| any_log(random, labels, 16));
     trials.log_texts(100, "with 8 links a step", 0, |random, labels| full_log(random, labels, 20, 8, 4_096));
@@ -105,6 +108,21 @@ impl Trials {
             self.comparison.read_log(&text, labels as u16, roomy(random, log::LENGTH));
         }
         println!("log texts {what}: {times}");
+    }
+
+    /// One line damaged two to four times, so that causes of one number meet and rank.
+    fn damaged_lines(&mut self, times: usize) {
+        let random = &mut self.random;
+        for _ in 0..times {
+            let (pattern, log) = any_pair(random, 5);
+            let text = pattern_text(random, &pattern, 0);
+            let text = damage::one_line(random, &text);
+            self.comparison.read_pattern(&text, pattern::LENGTH);
+            let text = log_text(random, &log, 0);
+            let text = damage::one_line(random, &text);
+            self.comparison.read_log(&text, pattern.labels as u16, log::LENGTH);
+        }
+        println!("texts with one line damaged two to four times: {times} patterns, {times} logs");
     }
 
     fn judgings(&mut self, times: usize, what: &str, make: fn(&mut Random) -> (Pattern, Log)) {
