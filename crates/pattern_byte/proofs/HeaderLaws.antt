@@ -13,13 +13,12 @@ use lib.Seq.{length-take-le}
 use Rattle.text.specs.Split.{split, firstPart}
 use Rattle.text.specs.Lines.{TextLine, lastLine, asLines, linesOf, printable, whole}
 use Rattle.text.proofs.SplitLaws.{split-some, split-empty, first-short, Cut, uncut, cut, cut-of}
-use Rattle.line_places.specs.Place.{placeAt, placeWhere, unprintablePlace, brokenAt, rankedAt, lineAt, foundLine}
-use Rattle.line_places.specs.declared.LineFound.{LineFound}
-use Rattle.line_places.specs.declared.LineFound.the-variants.{Whole, Broken}
+use Rattle.line_places.specs.Place.{unprintablePlace, rankedAt, lineAt}
 use Rattle.line_places.proofs.PlaceLaws.{place-most}
-use Rattle.line_places.proofs.LineLaws.{ranked-broken, ranked-whole, whole-ordered, whole-inside, whole-short, unprintable-most}
+use Rattle.line_places.proofs.LineLaws.{unprintable-most}
 use Rattle.lists.specs.Leftmost.{leftmost}
 use Rattle.pattern_places.specs.Place.{headerAt, wrongName}
+use Rattle.pattern_byte.specs.Byte.{placeIn, patternByte}
 use Rattle.pattern_byte.specs.Header.{oneLineAt, headerTextAt}
 
 -- ---- how many lines
@@ -56,16 +55,6 @@ last-one m = refl
 
 header-most : (bs : List ℕ) → headerAt (split 32 bs) ≤ length bs + 1
 header-most bs = place-most bs (leftmost (wrongName (split 32 bs)) (length (split 32 bs)))
-
-ranked-small : (l : TextLine) → rankedAt 240 l 0 ≤ 240
-unfolding rankedAt
-ranked-small l = go (leb (length (l .bytes)) 240) refl (l .newline) (printable (l .bytes))
-  where
-    go : (a : Bool) → leb (length (l .bytes)) 240 ≡ a → (b c : Bool) → cond (a && (b && c)) 0 (cond (a && b) (unprintablePlace (l .bytes)) 0) ≤ 240
-    go true e true true = omega arith
-    go true e true false = let h = leb-true (length (l .bytes)) 240 e in let m = unprintable-most (l .bytes) in omega arith
-    go true e false c = omega arith
-    go false e b c = omega arith
 
 module _ (header : List ℕ) (n : ℕ) (given : n ≡ length (firstPart 10 header)) where
   pub next-fits : length header * 1 < 2 ^ 63 → n + 1 < 2 ^ 64
@@ -119,23 +108,14 @@ module _ (header : List ℕ) (n : ℕ) (given : n ≡ length (firstPart 10 heade
             = s ∙ ap (λ (m : List ℕ). take k header ∷ split 10 m) (drop-of-length-le header {i = suc k} (omega arith)) ∙ ap (λ (ps : List (List ℕ)). take k header ∷ ps) (split-empty 10) in
             rw t (one-asked (take k header))
 
-    module _ (r : LineFound) (said : r ≡ foundLine 240 header 1) where
-      pub header-broken : (p : ℕ) → r ≡ Broken p → p ≡ headerTextAt header
-      header-broken p q = ranked-broken 240 header 1 r said p (headerAt (split 32 (lineAt header 1 .bytes))) q ∙ sym asked
+    read-so : patternByte header 12 1 ≡ rankedAt 240 (lineAt header 1) (headerAt (split 32 (lineAt header 1 .bytes)))
+    unfolding patternByte placeIn
+    read-so = refl
 
-      pub header-whole : (x y : ℕ) → r ≡ Whole x y → (p : ℕ) → p ≡ headerAt (split 32 (take (y - x) (drop x header))) → p ≡ headerTextAt header
-      header-whole x y q p e = ranked-whole 240 header 1 r said x y q (λ bs. headerAt (split 32 bs)) p e ∙ sym asked
+    pub one-line : (b : ℕ) → b ≡ patternByte header 12 1 → b ≡ headerTextAt header
+    one-line b e = e ∙ read-so ∙ sym asked
 
-      pub whole-place : (x y : ℕ) → r ≡ Whole x y → (p : ℕ) → p ≡ headerAt (split 32 (take (y - x) (drop x header))) → p < 65536
-      whole-place x y q p e =
-          let s = whole-short 240 header 1 r said x y q in
-          let m = header-most (take (y - x) (drop x header)) in
-          omega arith
-
-      pub broken-place : (p : ℕ) → r ≡ Broken p → p < 65536
-      broken-place p q = let e = ranked-broken 240 header 1 r said p 0 q in let m = ranked-small (lineAt header 1) in omega arith
-
-pub ruleset header-kit = (next-fits, not-one, header-broken, header-whole, broken-place, whole-place, whole-ordered, whole-inside)
+pub ruleset header-kit = (next-fits, not-one, one-line)
 
 -- ---- a header text's byte is at most 241
 

@@ -2,11 +2,8 @@
 ghost use mathlib.Core.Path.{_≡_};
 ghost use Rattle.pattern_byte.specs.Header.{headerTextAt};
 use fields::first_length;
-use line_places::LineFound;
-use line_places::inspect_line;
-use pattern_places::header::header_place;
 
-// 0 where it is not one line with its newline, and where no single place is at fault.
+// 0 where it is not one line with its newline; else as where a reader refuses that line as a header.
 pub fn header_byte(header: &[u8]) -> u16
     ensures { λ r. ⌜ r ≡ headerTextAt (now (header .entry)) ⌝ }
 {
@@ -14,8 +11,5 @@ pub fn header_byte(header: &[u8]) -> u16
     if n + 1 != header.len() {
         return 0;
     }
-    match inspect_line(header, 1, 240) {
-        LineFound::Broken(place) => place as u16,
-        LineFound::Whole(start, end) => header_place(&header[start..end]) as u16,
-    }
+    crate::byte_of(header, 12, 1)
 }
