@@ -1,6 +1,8 @@
 // A line below the header: its fields, then what it says.
 ghost use mathlib.Core.Path.{_≡_};
-ghost use lib.ListN.{length, drop};
+ghost use Prim.Native.Nat.{_≤_};
+ghost use lib.ListN.{length, take, drop};
+ghost use Rattle.pattern_line.specs.Limits.{mostLabels};
 ghost use Rattle.fields.specs.Fields.{Marked};
 ghost use Rattle.pattern_line.specs.Line.{fieldsOf, fieldAt};
 ghost use Rattle.pattern_order.specs.Answers.{lineSaid, rowsAt};
@@ -8,9 +10,7 @@ ghost use Rattle.pattern_row.specs.Fields.{ruleOf};
 ghost use Rattle.pattern_row.specs.Answers.{rowJudged, nextSets};
 ghost use Rattle.numbers.specs.Listed.{areNumbers};
 use numbers::Number;
-use numbers::is_number_at;
 use numbers::number_at;
-use numbers::value_at;
 use pattern_line::refusals::Refusal;
 use pattern_line::words::word_at;
 use pattern_order::Last;
@@ -31,33 +31,34 @@ fn rule_at(line: &[u8], marks: &[usize]) -> u16
     0
 }
 
-// Are all fields after the first four numbers?
-fn are_numbers(line: &[u8], marks: &[usize]) -> bool
-    requires { ⌜ Marked 32 (now line) (now marks) ⌝ }
-    ensures { λ r. ⌜ r ≡ areNumbers (drop 4 (fieldsOf (now (line .entry)))) ⌝ }
-{
-    let count = fields::marked_count(line, 32, marks);
-    let mut i = 4;
-    while i < count {
-        if !is_number_at(line, marks, i) {
-            return false;
-        }
-        i += 1;
-    }
-    true
-}
-
-// The next sets: the numbers of the fields after the first four, and 0 for the labels that the line lacks.
-fn read_next(line: &[u8], marks: &[usize], next: &mut [u16])
+// The next sets: the numbers of the fields after the first four, and 0 for the labels that the line lacks. Each field is read once, so the
+// answer is given too: are those that the line has numbers?
+fn read_next(line: &[u8], marks: &[usize], next: &mut [u16]) -> bool
     requires { ⌜ Marked 32 (now line) (now marks) ⌝ }
     requires { ⌜ length (now next) ≡ 16 ⌝ }
+    ensures { λ r. ⌜ r ≡ areNumbers (take 16 (drop 4 (fieldsOf (now (line .entry))))) ⌝ }
     ensures { λ _. ⌜ now (next .exit) ≡ nextSets (fieldsOf (now (line .entry))) ⌝ }
 {
+    let count = fields::marked_count(line, 32, marks);
+    let mut numbers = true;
     let mut a = 0;
     while a < 16 {
-        next[a] = value_at(line, marks, 4 + a);
-        a += 1;
+        let index = 4 + a;
+        match number_at(line, marks, index) {
+            Number::Value(v) => {
+                next[a] = v;
+                a += 1;
+            }
+            Number::Malformed => {
+                next[a] = 0;
+                a += 1;
+                if index < count {
+                    numbers = false;
+                }
+            }
+        }
     }
+    numbers
 }
 
 // The same for a line whose fields are marked.
@@ -68,15 +69,15 @@ fn read_marked(
     last: Last,
     next: &mut [u16],
 ) -> LineAnswer
-    requires { ⌜ Marked 32 (now line) (now marks) × (length (now next) ≡ 16) ⌝ }
+    requires { ⌜ Marked 32 (now line) (now marks) × (labels ≤ mostLabels) × (length (now next) ≡ 16) ⌝ }
     ensures { λ r. ⌜ lineSaid r ≡ rowJudged labels (rowsAt last) (fieldsOf (now (line .entry))) ⌝ }
     ensures { λ _. ⌜ now (next .exit) ≡ nextSets (fieldsOf (now (line .entry))) ⌝ }
 {
-    read_next(line, marks, next);
+    let numbers = read_next(line, marks, next);
     if fields::marked_count(line, 32, marks) != 4 + labels as usize {
         return LineAnswer::Refused(Refusal::Malformed);
     }
-    if !are_numbers(line, marks) {
+    if !numbers {
         return LineAnswer::Refused(Refusal::Malformed);
     }
     let rule = rule_at(line, marks);
@@ -102,7 +103,7 @@ fn read_marked(
 
 // What the line says after the line before; its next sets are left in `next`. The line is split once.
 pub fn read_row(line: &[u8], labels: u16, last: Last, next: &mut [u16]) -> LineAnswer
-    requires { ⌜ length (now next) ≡ 16 ⌝ }
+    requires { ⌜ (labels ≤ mostLabels) × (length (now next) ≡ 16) ⌝ }
     ensures { λ r. ⌜ lineSaid r ≡ rowJudged labels (rowsAt last) (fieldsOf (now (line .entry))) ⌝ }
     ensures { λ _. ⌜ now (next .exit) ≡ nextSets (fieldsOf (now (line .entry))) ⌝ }
 {

@@ -1,8 +1,9 @@
 // The lines of a text: the header, then the rows, each stored as it passes.
 ghost use mathlib.Core.Path.{_≡_};
 ghost use mathlib.Core.List.{[]};
+ghost use Prim.Native.Nat.{_≤_};
 ghost use lib.ListN.{length};
-ghost use Rattle.pattern_line.specs.Limits.{bufferLength};
+ghost use Rattle.pattern_line.specs.Limits.{bufferLength, mostLabels};
 ghost use Rattle.pattern_line.specs.Line.{fieldsOf};
 ghost use Rattle.pattern_store.specs.Buffer.{bufferOf};
 ghost use Rattle.pattern_order.specs.Answers.{lineSaid, rowsAt};
@@ -55,7 +56,7 @@ pub fn read_first(text: &[u8]) -> FirstAnswer
 
 // What a line says after the line before; where it passes, it is stored.
 fn take_row(line: &[u8], labels: u16, last: Last, buffer: &mut [u16]) -> LineAnswer
-    requires { ⌜ length (now buffer) ≡ bufferLength ⌝ }
+    requires { ⌜ (labels ≤ mostLabels) × (length (now buffer) ≡ bufferLength) ⌝ }
     ensures { λ r. ⌜ lineSaid r ≡ rowJudged labels (rowsAt last) (fieldsOf (now (line .entry))) ⌝ }
     ensures { λ r. ⌜ now (buffer .exit) ≡ rowStored (now (buffer .entry)) r (fieldsOf (now (line .entry))) ⌝ }
 {

@@ -19,9 +19,6 @@ same-length c = search (needs, row-kit)
 returns : tie.Need-returns
 returns c = search (needs, row-kit)
 
-are-numbers-requires : tie.Need-are-numbers-requires
-are-numbers-requires c κs = search (needs, row-kit)
-
 same-length-2 : tie.Need-same-length-2
 same-length-2 c = search (needs, row-kit)
 
@@ -94,7 +91,6 @@ read-marked-spec =
     add-if1
     same-length
     returns
-    are-numbers-requires
     same-length-2
     returns-2
     rule-at-requires
