@@ -1,4 +1,5 @@
-// A room drawn, written, read back, changed and written again.
+// A room drawn, written, read back, changed and written again; its text changed and read.
+use crate::changed::try_kinds;
 use answer::Answer;
 use random_inputs::reduced;
 use tallies::add;
@@ -65,6 +66,7 @@ fn write_room(log: &mut [u16], labels: u16, from: Random, counts: &mut [u64]) ->
     add_if(counts, REFUSED, a.number != 0);
     let output = trial::front(&text, a.count as usize);
     read_back(output, labels, log, counts);
+    try_kinds(output, labels, from, counts);
     change(log, labels, output, from, counts)
 }
 
@@ -73,7 +75,7 @@ fn write(log: &[u16], labels: u16, text: &mut [u8]) -> Answer {
     log_writer::write_log(log, labels, text)
 }
 
-fn read(text: &[u8], labels: u16, log: &mut [u16]) -> Answer {
+pub fn read(text: &[u8], labels: u16, log: &mut [u16]) -> Answer {
     log::read_log(text, labels, log)
 }
 

@@ -1,10 +1,12 @@
-// Random pattern rooms: what the writer writes is read, and the numbers compared; then one number is changed, and the room is refused or
-// gives another text. It prints what was tried and how much of each kind; `names.txt` has the names of the counts.
+// Random pattern rooms: what the writer writes is read, and the numbers compared; a byte of it is changed, and the reader's refusal
+// compared; then one number is changed, and the room is refused or gives another text. It prints what was tried and how much of each
+// kind; `names.txt` has the names of the counts.
+mod changed;
 mod rooms;
 
 fn main() {
     let mut names = [0u8; 1024];
-    let mut counts = [0u64; 11];
+    let mut counts = [0u64; 22];
     let n = trial::load(b"names.txt", &mut names);
     rooms::try_rooms(4000, &mut counts);
     tallies::print_counts(&names[..n], &counts);

@@ -1,4 +1,5 @@
-// A room drawn, written, read back, changed and written again.
+// A room drawn, written, read back, changed and written again; its text changed and read.
+use crate::changed::try_kinds;
 use answer::Answer;
 use random_inputs::reduced;
 use tallies::add;
@@ -73,6 +74,7 @@ fn write_room(pattern: &mut [u16], header: &[u8], from: Random, counts: &mut [u6
     add_if(counts, REFUSED, a.number != 0);
     let output = trial::front(&text, a.count as usize);
     read_back(output, pattern, counts);
+    try_kinds(output, from, counts);
     change(pattern, header, output, from, counts)
 }
 
@@ -81,7 +83,7 @@ fn write(pattern: &[u16], header: &[u8], text: &mut [u8]) -> Answer {
     pattern_writer::write_pattern(pattern, header, text)
 }
 
-fn read(text: &[u8], pattern: &mut [u16]) -> Answer {
+pub fn read(text: &[u8], pattern: &mut [u16]) -> Answer {
     pattern::read_pattern(text, pattern)
 }
 

@@ -11,7 +11,7 @@ pub struct Change {
     pub byte: u8,
 }
 
-pub fn draw_change(kind: u64, text: &[u8], from: Random) -> Change {
+fn draw_change(kind: u64, text: &[u8], from: Random) -> Change {
     let place = from.next();
     let again = place.next();
     let drawn = again.next();
@@ -24,9 +24,13 @@ pub fn draw_change(kind: u64, text: &[u8], from: Random) -> Change {
     }
 }
 
-pub fn put_change(text: &mut [u8], c: Change) {
-    trial::put_byte(text, c.at, c.byte);
-    trial::put_byte(text, c.later, c.byte);
+// The text with a change drawn, at the front of a buffer.
+pub fn put_changed(kind: u64, text: &[u8], from: Random, changed: &mut [u8]) -> Change {
+    let c = draw_change(kind, text, from);
+    trial::append_bytes(changed, 0, text);
+    trial::put_byte(changed, c.at, c.byte);
+    trial::put_byte(changed, c.later, c.byte);
+    c
 }
 
 fn draw_index(kind: u64, text: &[u8], from: Random) -> usize {

@@ -4,6 +4,5 @@ mod changes;
 mod walk;
 
 pub use changes::Change;
-pub use changes::draw_change;
-pub use changes::put_change;
-pub use walk::expected;
+pub use changes::put_changed;
+pub use walk::is_expected;

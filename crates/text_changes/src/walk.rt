@@ -9,8 +9,12 @@ struct Spot {
     field: u16,
 }
 
-// What a reader has to answer for the changed text.
-pub fn expected(text: &[u8], c: Change) -> Answer {
+// Is this what a reader has to answer for the changed text?
+pub fn is_expected(a: Answer, text: &[u8], c: Change) -> bool {
+    answer::code(a) == answer::code(expected(text, c))
+}
+
+fn expected(text: &[u8], c: Change) -> Answer {
     let spot = walk(text, c.at);
     answer::refused_in(number_of(c.kind), spot.line, byte_of(c.kind, spot))
 }
