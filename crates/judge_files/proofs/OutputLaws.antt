@@ -13,7 +13,8 @@ use Rattle.pattern_buffer.specs.Meaning.{beadsIn}
 use Rattle.log_buffer.specs.Meaning.{stepsIn}
 use Rattle.judging.specs.Judge.{judgeAnswer, accepts, resultAfter, workAfter}
 use Rattle.writing.specs.Put.{Put}
-use Rattle.report.specs.Report.{headerText, rowLines, refusalText, outputText}
+use Rattle.report_lines.specs.Lines.{headerText, refusalText}
+use Rattle.report.specs.Report.{rowLines, outputText}
 use Rattle.report.proofs.Fits.{few-steps, output-fits, refusal-fits}
 use Rattle.judge_files.specs.Files.{PatternRead, LogRead, LogJudged, log-refused, log-judged, Run, pattern-refused, pattern-read}
 use Rattle.judge_files.specs.Output.{AtFront}

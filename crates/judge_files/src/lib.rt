@@ -39,7 +39,7 @@ pub fn run(
         let length = report::put_rows(output, beads, steps, result);
         return Output { answer, length };
     }
-    let length = report::put_refusal(output, 0, answer);
+    let length = report_lines::put_refusal(output, 0, answer);
     Output { answer, length }
 }
 

@@ -28,7 +28,8 @@ use Rattle.pattern_buffer.proofs.Meaning.{pattern-well-formed}
 use Rattle.judging.specs.Judge.{patternIn, logIn, accepts, resultAfter}
 use Rattle.results.specs.Result.{rowIn}
 use Rattle.judging.proofs.Calls.{Accepted, passed-all, row-in-result}
-use Rattle.report.specs.Report.{headerText, pivotsWord, rowText, refusalFields, refusalText, rowLines}
+use Rattle.report_lines.specs.Lines.{headerText, pivotsWord, rowText, refusalFields, refusalText}
+use Rattle.report.specs.Report.{rowLines}
 
 -- Each number has at most four digits.
 abbrev Small : List ℕ → Type 0

@@ -1,4 +1,2 @@
-pub mod LineLaws
 pub mod RowsLaws
 pub mod Fits
-pub mod Listing

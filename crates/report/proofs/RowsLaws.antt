@@ -8,7 +8,8 @@ use lib.ListN.{take, drop}
 use Rattle.text.specs.Split.{joined}
 use Rattle.writing.specs.Put.{Put}
 use Rattle.writing.proofs.PutLaws.{nothing-put, then}
-use Rattle.report.specs.Report.{headerText, rowText, rowLines}
+use Rattle.report_lines.specs.Lines.{headerText, rowText}
+use Rattle.report.specs.Report.{rowLines}
 use Rattle.results.specs.Result.{rowIn}
 
 pub no-rows : (l result : List ℕ) (beads at : ℕ) → Put (rowLines beads 0 result) at l at l

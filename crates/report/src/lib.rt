@@ -1,14 +1,12 @@
 // What the program prints, as bytes in a buffer. No input or output.
-mod lines;
-
-use lines::put_header;
-pub use lines::put_refusal;
-use lines::put_row;
+use report_lines::put_header;
+use report_lines::put_row;
 ghost use Prim.Native.Nat.{_*_, _≤_};
 ghost use mathlib.Core.List.{_++_};
 ghost use lib.ListN.{length};
 ghost use Rattle.writing.specs.Put.{Put};
-ghost use Rattle.report.specs.Report.{headerText, rowLines};
+ghost use Rattle.report_lines.specs.Lines.{headerText};
+ghost use Rattle.report.specs.Report.{rowLines};
 
 // The header, and a line for each step from its row in the result buffer, at the front of a buffer.
 // Answers how long that is.

@@ -9,7 +9,7 @@ use Rattle.report.proofs.put_lines.Statement.{statement}
 use Rattle.report.proofs.put_lines.Tie as tie
 use Rattle.report.proofs.put_lines.Reads as reads
 use Rattle.report.proofs.put_lines.Lts as lts
-use Rattle.report.proofs.lines.put_row.Reads as put-row-reads
+use Rattle.report_lines.proofs.put_row.Reads as put-row-reads
 
 abbrev Inv-loop : tie.InvT-loop
 Inv-loop out₀ at beads steps result next₀ step₀ out next step = (step ≤ steps) × (next ≤ at + 67 * step) × (length out ≡ length out₀) × Put (rowLines beads step result) at out₀ next out

@@ -4,7 +4,7 @@ use Rattle.report.proofs.put_rows.Statement.{statement}
 use Rattle.report.proofs.put_rows.Tie as tie
 use Rattle.report.proofs.put_rows.Reads as reads
 use Rattle.report.proofs.put_rows.Lts as lts
-use Rattle.report.proofs.lines.put_header.Reads as put-header-reads
+use Rattle.report_lines.proofs.put_header.Reads as put-header-reads
 use Rattle.report.proofs.put_lines.Reads as put-lines-reads
 
 -- src/lib.rt:19:9

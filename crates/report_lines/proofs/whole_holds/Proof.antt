@@ -1,9 +1,9 @@
-use Rattle.report.proofs.LineLaws.{kit}
+use Rattle.report_lines.proofs.LineLaws.{kit}
 use borrow.Author.Needs.{needs}
-use Rattle.report.proofs.lines.whole_holds.Statement.{statement}
-use Rattle.report.proofs.lines.whole_holds.Tie as tie
-use Rattle.report.proofs.lines.whole_holds.Reads as reads
-use Rattle.report.proofs.lines.whole_holds.Lts as lts
+use Rattle.report_lines.proofs.whole_holds.Statement.{statement}
+use Rattle.report_lines.proofs.whole_holds.Tie as tie
+use Rattle.report_lines.proofs.whole_holds.Reads as reads
+use Rattle.report_lines.proofs.whole_holds.Lts as lts
 use Rattle.sets.proofs.member.Reads as member-reads
 
 -- src/lib.rt:66:9

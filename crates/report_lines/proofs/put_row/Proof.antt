@@ -1,7 +1,7 @@
-use Rattle.report.proofs.LineLaws.{kit}
+use Rattle.report_lines.proofs.LineLaws.{kit}
 use borrow.Author.Needs.{needs}
-use Rattle.report.proofs.lines.put_row.Statement.{statement}
-use Rattle.report.proofs.lines.put_row.Tie as tie
+use Rattle.report_lines.proofs.put_row.Statement.{statement}
+use Rattle.report_lines.proofs.put_row.Tie as tie
 
 -- src/lib.rt:41:9
 put-ended-requires : tie.Need-put-ended-requires

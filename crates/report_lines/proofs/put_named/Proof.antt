@@ -1,8 +1,8 @@
 -- The bytes, then the number.
-use Rattle.report.proofs.LineLaws.{named-kit}
+use Rattle.report_lines.proofs.LineLaws.{named-kit}
 use borrow.Author.Needs.{needs}
-use Rattle.report.proofs.lines.put_named.Statement.{statement}
-use Rattle.report.proofs.lines.put_named.Tie as tie
+use Rattle.report_lines.proofs.put_named.Statement.{statement}
+use Rattle.report_lines.proofs.put_named.Tie as tie
 
 put-bytes-requires : tie.Need-put-bytes-requires
 put-bytes-requires c κs = search (needs, named-kit)

@@ -1,7 +1,7 @@
-use Rattle.report.proofs.LineLaws.{kit}
+use Rattle.report_lines.proofs.LineLaws.{kit}
 use borrow.Author.Needs.{needs}
-use Rattle.report.proofs.lines.put_pivots.Statement.{statement}
-use Rattle.report.proofs.lines.put_pivots.Tie as tie
+use Rattle.report_lines.proofs.put_pivots.Statement.{statement}
+use Rattle.report_lines.proofs.put_pivots.Tie as tie
 
 -- src/lib.rt:53:27
 shared-slice-read-whole-holds : tie.Need-shared-slice-read-whole-holds

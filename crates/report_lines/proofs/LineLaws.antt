@@ -14,7 +14,7 @@ use Rattle.sets.specs.Sets.{member}
 use Rattle.sets.proofs.Bits.{member-add, member-empty}
 use Rattle.text.specs.Split.{joined}
 use Rattle.numbers.specs.Numbers.{spell}
-use Rattle.report.specs.Report.{headerText, pivotsWord, rowText, refusalText}
+use Rattle.report_lines.specs.Lines.{headerText, pivotsWord, rowText, refusalText}
 use Rattle.writing.specs.Put.{Put, listed}
 use Rattle.writing.proofs.PutLaws.{then, joined-listed}
 

@@ -6,7 +6,7 @@ use lib.ListN.{take, replicate}
 use Rattle.answer.specs.Answers.{refusedAt, refusedIn}
 use Rattle.text.specs.Split.{joined}
 use Rattle.numbers.specs.Numbers.{spellIn}
-use Rattle.report.specs.Report.{headerText, rowText, refusalText}
+use Rattle.report_lines.specs.Lines.{headerText, rowText, refusalText}
 
 -- A line that the definitions give, and the bytes that document 01 shows.
 pub record Case : Type 0 where

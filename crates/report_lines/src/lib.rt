@@ -13,7 +13,7 @@ ghost use Rattle.numbers.specs.Numbers.{spell};
 ghost use lib.ListN.{length};
 ghost use Rattle.sets.specs.Sets.{member};
 ghost use Rattle.writing.specs.Put.{Put};
-ghost use Rattle.report.specs.Report.{headerText, pivotsWord, rowText, refusalText};
+ghost use Rattle.report_lines.specs.Lines.{headerText, pivotsWord, rowText, refusalText};
 
 pub fn put_header(out: &mut [u8], at: usize) -> usize
     requires { ⌜ at + 23 < 2 ^ 64 ⌝ }

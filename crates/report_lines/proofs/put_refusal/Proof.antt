@@ -1,8 +1,8 @@
 -- Number, line and byte, each behind its name.
-use Rattle.report.proofs.LineLaws.{refusal-kit}
+use Rattle.report_lines.proofs.LineLaws.{refusal-kit}
 use borrow.Author.Needs.{needs}
-use Rattle.report.proofs.lines.put_refusal.Statement.{statement}
-use Rattle.report.proofs.lines.put_refusal.Tie as tie
+use Rattle.report_lines.proofs.put_refusal.Statement.{statement}
+use Rattle.report_lines.proofs.put_refusal.Tie as tie
 
 slice-aggregate-put-named : tie.Need-slice-aggregate-put-named
 slice-aggregate-put-named c = search (needs, refusal-kit)

@@ -1,9 +1,9 @@
-use Rattle.report.proofs.LineLaws.{kit}
+use Rattle.report_lines.proofs.LineLaws.{kit}
 use borrow.Author.Needs.{needs}
-use Rattle.report.proofs.lines.put_header.Statement.{statement}
-use Rattle.report.proofs.lines.put_header.Tie as tie
-use Rattle.report.proofs.lines.put_header.Reads as reads
-use Rattle.report.proofs.lines.put_header.Lts as lts
+use Rattle.report_lines.proofs.put_header.Statement.{statement}
+use Rattle.report_lines.proofs.put_header.Tie as tie
+use Rattle.report_lines.proofs.put_header.Reads as reads
+use Rattle.report_lines.proofs.put_header.Lts as lts
 use Rattle.writing.proofs.put_bytes.Reads as put-bytes-reads
 
 -- src/lib.rt:20:24
