@@ -12,7 +12,7 @@ use Rattle.answer.specs.Answers.{acceptedWith}
 use Rattle.pattern_buffer.specs.Meaning.{labelsIn}
 use Rattle.pattern_buffer.specs.Valid.{isPattern}
 use Rattle.log_buffer.specs.Valid.{isLog}
-use Rattle.phases.specs.Phases.{Tried}
+use Rattle.prefix_phase.specs.Marked.{Tried}
 use Rattle.results.specs.Result.{zeros}
 
 pub both-tried : (pattern log : List ℕ) (b d : Bool) → b ≡ isPattern pattern → b ≡ true → d ≡ isLog (getD pattern 0 0) log → d ≡ true → Tried pattern log

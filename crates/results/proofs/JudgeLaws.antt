@@ -18,7 +18,8 @@ use Rattle.pattern_buffer.specs.Meaning.{beadsIn, labelsIn, patternOf}
 use Rattle.pattern_buffer.proofs.Meaning.{pattern-well-formed}
 use Rattle.pattern_buffer.proofs.Places.{passes-out}
 use Rattle.passes.proofs.Facts.{laid}
-use Rattle.phases.specs.Phases.{Tried, Unmarked, Marks, WalkedDownTo}
+use Rattle.prefix_phase.specs.Marked.{Tried, Unmarked, Marks}
+use Rattle.walk_phase.specs.Walked.{WalkedDownTo}
 use Rattle.results.specs.Limits.{resultLength, rowLength}
 use Rattle.results.specs.Result.{rowsUpTo, wholeUpTo, rowsOf}
 use Rattle.results.specs.Arrays.{resultFrom, Sized}

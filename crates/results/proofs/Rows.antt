@@ -15,8 +15,9 @@ use Rattle.necklace.proofs.RowMeaning.{prefixes-member}
 use Rattle.rows.specs.Rows.{pivotAt, rowFrom, rowsFrom, wholeFrom}
 use Rattle.rows.proofs.Meaning.{row-is}
 use Rattle.results.specs.Result.{rowsUpTo, wholeUpTo}
-use Rattle.phases.specs.Phases.{Marks, WalkedDownTo}
-use Rattle.phases.proofs.WalkBack.{pivot-is}
+use Rattle.prefix_phase.specs.Marked.{Marks}
+use Rattle.walk_phase.specs.Walked.{WalkedDownTo}
+use Rattle.walk_phase.proofs.WalkBack.{pivot-is}
 
 module _ (G : Dag) (P : Pattern) (some : 1 ≤ P .count) (n : ℕ) (sets : List ℕ) (m : Marks G P n sets) where
   -- The last bead's bit is in the set of a vertex exactly if the whole pattern holds there.

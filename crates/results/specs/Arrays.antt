@@ -5,7 +5,7 @@ use mathlib.Core.List.{List, _++_}
 use lib.ListN.{drop, replicate}
 use Rattle.log_buffer.specs.Meaning.{stepsIn}
 use Rattle.pattern_buffer.specs.Meaning.{beadsIn}
-use Rattle.phases.specs.Phases.{Tried}
+use Rattle.prefix_phase.specs.Marked.{Tried}
 use Rattle.rows.specs.Rows.{rowsFrom}
 use Rattle.results.specs.Limits.{resultLength, rowLength}
 

@@ -5,7 +5,8 @@ ghost use Prim.Native.Nat.{_≤_};
 ghost use lib.ListN.{length, drop, replicate};
 ghost use Rattle.log_buffer.specs.Meaning.{logOf, stepsIn};
 ghost use Rattle.pattern_buffer.specs.Meaning.{patternOf};
-ghost use Rattle.phases.specs.Phases.{Tried, Unmarked, Marks, WalkedDownTo};
+ghost use Rattle.prefix_phase.specs.Marked.{Tried, Unmarked, Marks};
+ghost use Rattle.walk_phase.specs.Walked.{WalkedDownTo};
 ghost use Rattle.results.specs.Arrays.{resultFrom, Sized};
 ghost use Rattle.results.specs.Result.{wholeUpTo, rowsOf};
 ghost use Rattle.rows.specs.Rows.{wholeFrom};
@@ -27,8 +28,8 @@ fn fill_arrays(
 {
     let mut flags = [0u16; 1024];
     let ready = Ready { bead: 0, target: 0 };
-    phases::prefixes::mark_prefixes(pattern, log, prefixes, work);
-    phases::walk::walk_back(pattern, log, ready, prefixes, pivots, work, &mut flags);
+    prefix_phase::mark_prefixes(pattern, log, prefixes, work);
+    walk_phase::walk_back(pattern, log, ready, prefixes, pivots, work, &mut flags);
 }
 
 // The rows of all steps, and zeros in the unused places.

@@ -1,0 +1,2 @@
+pub mod PrefixPhase
+pub mod MarkLaws

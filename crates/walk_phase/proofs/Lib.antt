@@ -1,0 +1,3 @@
+pub mod WalkBack
+pub mod WalkPhase
+pub mod WalkLaws
