@@ -8,6 +8,8 @@ fn main() {
     let mut work = [0; 16384];
     let mut output = [0; 65536];
     let printed = judge_files::run(
+        b"pattern.txt",
+        b"log.txt",
         &mut pattern_text,
         &mut log_text,
         &mut pattern,

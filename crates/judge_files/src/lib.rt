@@ -15,11 +15,13 @@ pub struct Output {
     pub length: usize,
 }
 
-// Judges `log.txt` by `pattern.txt`, both in the working directory, and lays out the rows, or the
+// Judges the log in one file by the pattern in another, and lays out the rows, or the
 // line of the first refusal, at the front of the output. A pattern that is refused means that the
 // log is not opened. Each text buffer is a byte longer than the longest text, so that a text that
 // is too long is seen.
 pub fn run(
+    pattern_name: &[u8],
+    log_name: &[u8],
     patterntext: &mut [u8; 16385],
     logtext: &mut [u8; 65536],
     pattern: &mut [u16; 2074],
@@ -32,7 +34,16 @@ pub fn run(
     ensures { λ r. ⌜ Run (now (patterntext .exit)) (now (logtext .exit)) (now (pattern .entry)) (now (log .entry)) (now (result .entry)) (now (work .entry)) (r .answer) (now (pattern .exit)) (now (log .exit)) (now (result .exit)) (now (work .exit)) ⌝ }
     ensures { λ r. ⌜ AtFront (outputText (r .answer) (beadsIn (now (pattern .exit))) (stepsIn (now (log .exit))) (now (result .exit))) (now (output .entry)) (r .length) (now (output .exit)) ⌝ }
 {
-    let answer = judge_texts(patterntext, logtext, pattern, log, result, work);
+    let answer = judge_texts(
+        pattern_name,
+        log_name,
+        patterntext,
+        logtext,
+        pattern,
+        log,
+        result,
+        work,
+    );
     if answer.number == 0 {
         let beads = pattern[1];
         let steps = log[0];
@@ -44,6 +55,8 @@ pub fn run(
 }
 
 fn judge_texts(
+    pattern_name: &[u8],
+    log_name: &[u8],
     patterntext: &mut [u8],
     logtext: &mut [u8],
     pattern: &mut [u16],
@@ -53,14 +66,15 @@ fn judge_texts(
 ) -> Answer
     ensures { λ r. ⌜ Run (now (patterntext .exit)) (now (logtext .exit)) (now (pattern .entry)) (now (log .entry)) (now (result .entry)) (now (work .entry)) r (now (pattern .exit)) (now (log .exit)) (now (result .exit)) (now (work .exit)) ⌝ }
 {
-    let first = read_pattern_file(patterntext, pattern);
+    let first = read_pattern_file(pattern_name, patterntext, pattern);
     if first.number == 0 {
-        return judge_log_file(logtext, pattern, log, result, work);
+        return judge_log_file(log_name, logtext, pattern, log, result, work);
     }
     first
 }
 
 fn judge_log_file(
+    name: &[u8],
     text: &mut [u8],
     pattern: &[u16],
     log: &mut [u16],
@@ -69,24 +83,24 @@ fn judge_log_file(
 ) -> Answer
     ensures { λ r. ⌜ LogJudged (now (text .exit)) (now (pattern .entry)) (now (log .entry)) (now (result .entry)) (now (work .entry)) r (now (log .exit)) (now (result .exit)) (now (work .exit)) ⌝ }
 {
-    let read = read_log_file(text, pattern, log);
+    let read = read_log_file(name, text, pattern, log);
     if read.number == 0 {
         return judging::judge(pattern, log, result, work);
     }
     read
 }
 
-fn read_pattern_file(text: &mut [u8], pattern: &mut [u16]) -> Answer
+fn read_pattern_file(name: &[u8], text: &mut [u8], pattern: &mut [u16]) -> Answer
     ensures { λ r. ⌜ PatternRead (now (text .exit)) (now (pattern .entry)) r (now (pattern .exit)) ⌝ }
 {
-    let n = load(b"pattern.txt", text);
+    let n = load(name, text);
     pattern::read_pattern(&text[..n], pattern)
 }
 
-fn read_log_file(text: &mut [u8], pattern: &[u16], log: &mut [u16]) -> Answer
+fn read_log_file(name: &[u8], text: &mut [u8], pattern: &[u16], log: &mut [u16]) -> Answer
     ensures { λ r. ⌜ LogRead (now (text .exit)) (now (pattern .entry)) (now (log .entry)) r (now (log .exit)) ⌝ }
 {
-    let n = load(b"log.txt", text);
+    let n = load(name, text);
     log::read_log(&text[..n], label_count(pattern), log)
 }
 

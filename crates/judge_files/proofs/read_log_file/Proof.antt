@@ -4,9 +4,6 @@ use borrow.Author.Needs.{needs}
 use Rattle.judge_files.proofs.read_log_file.Statement.{statement}
 use Rattle.judge_files.proofs.read_log_file.Tie as tie
 
-slice-aggregate-load : tie.Need-slice-aggregate-load
-slice-aggregate-load c = search needs
-
 load-requires : tie.Need-load-requires
 load-requires c κs = search needs
 
@@ -35,7 +32,6 @@ pub read-log-file-spec : {M : Type 1} → statement M
 read-log-file-spec =
     tie.close
     (tie.spec
-    slice-aggregate-load
     load-requires
     slice-reshare-prefix-read-log
     slice-aggregate-read-log
