@@ -1,6 +1,2 @@
 pub mod HeaderLaws
 pub mod WriteLaws
-pub mod ReadBack
-pub mod Cases
-pub mod Stays
-pub mod HeaderFault

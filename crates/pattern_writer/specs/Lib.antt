@@ -1,4 +1,2 @@
 pub mod Writer
 pub mod Tested
-pub mod ReadBack
-pub mod HeaderFault

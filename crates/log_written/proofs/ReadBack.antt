@@ -24,9 +24,9 @@ use Rattle.log_buffer.proofs.Sound.{sound-iff}
 use Rattle.log_texts.specs.Spelled.{stepsOf}
 use Rattle.log_texts.proofs.LogBuffers.{text-says, steps-give}
 use Rattle.log_texts.proofs.LogText.{known}
 use Rattle.log_writer.specs.Writer.{logWritten, writeFaults, writeAnswer, textAfter, accepts, output}
-use Rattle.log_writer.specs.ReadBack.{ReadBack}
+use Rattle.log_written.specs.ReadBack.{ReadBack}
 use Rattle.log_writer.proofs.Fits.{text-fits}
 
 -- ---- a buffer that passes under a label count
 

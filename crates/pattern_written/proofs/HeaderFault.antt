@@ -20,8 +20,8 @@ use Rattle.pattern_header.specs.Header.{isHeader, labelCount}
 use Rattle.pattern_places.specs.Place.{wrongName, headerAt}
 use Rattle.pattern_byte.specs.Header.{oneLineAt, headerTextAt}
 use Rattle.pattern_faults.proofs.Causes.{names-missing}
 use Rattle.pattern_writer.specs.Writer.{names as named, oneHeader, headerFits}
-use Rattle.pattern_writer.specs.HeaderFault.{OneLine, HeaderPlaced, lines, long, unended, unprintable, name, names, labels}
+use Rattle.pattern_written.specs.HeaderFault.{OneLine, HeaderPlaced, lines, long, unended, unprintable, name, names, labels}
 
 module _ (c : ℕ) (header : List ℕ) where
   module _ (l : TextLine) (one : linesOf header ≡ l ∷ []) where

@@ -27,11 +27,11 @@ use Rattle.pattern_buffer.proofs.Places.{passes-out}
 use Rattle.pattern_texts.specs.Spelled.{rowsOf}
 use Rattle.pattern_texts.proofs.TextUnder.{under-accepted}
 use Rattle.pattern_texts.proofs.PatternBuffers.{text-gives}
 use Rattle.pattern_writer.specs.Writer.{headerFits, written, patternWritten, roomFaults, testFaults, writeFaults, writeAnswer, accepts, inFront, textAfter}
 use Rattle.pattern_writer.specs.Tested.{Tested}
-use Rattle.pattern_writer.specs.ReadBack.{ReadBack}
+use Rattle.pattern_written.specs.ReadBack.{ReadBack}
 use Rattle.pattern_writer.proofs.HeaderLaws.{headed}
 use Rattle.pattern_writer.proofs.WriteLaws.{written-length}
 
 module _ (pattern header text : List ℕ) (a : T (accepts pattern header text)) where
   abbrev b : List ℕ

@@ -1,0 +1,1 @@
+// Theorems about the log writer's calls have no code.

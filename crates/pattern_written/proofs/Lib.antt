@@ -1,0 +1,4 @@
+pub mod ReadBack
+pub mod Cases
+pub mod Stays
+pub mod HeaderFault

@@ -1,0 +1,1 @@
+// Theorems about the pattern writer's calls have no code.
