@@ -155,7 +155,7 @@ listed v xs = record { pattern = listing-pattern; log = listing-log; step = v; n
 unfoldable pub marked : List Case
 marked =
     listed 0 (0 ∷ [])
-    ∷ listed 1 (1 ∷ [])
+    ∷ listed 1 (3 ∷ 0 ∷ 1 ∷ 1 ∷ [])
     ∷ listed 2 (0 ∷ [])
     ∷ listed 3 (2 ∷ 0 ∷ 1 ∷ 3 ∷ [])
     ∷ listed 4 (0 ∷ [])
@@ -166,9 +166,16 @@ marked =
     ∷ record { pattern = some-vented; log = bare-step; step = 1; numbers = ten (0 ∷ []) }
     ∷ record { pattern = all-clean; log = labels-five; step = 1; numbers = ten (0 ∷ []) }
     ∷ record { pattern = some-clean; log = labels-five; step = 1; numbers = ten (1 ∷ 0 ∷ 1 ∷ []) }
+    -- step 0: it holds where state 0 is final, and its pivots are all 0
+    ∷ record { pattern = all-clean; log = bare-step; step = 0; numbers = ten (1 ∷ 0 ∷ 0 ∷ []) }
+    ∷ record { pattern = some-vented; log = bare-step; step = 0; numbers = ten (0 ∷ []) }
+    ∷ record { pattern = all-clean; log = labels-five; step = 0; numbers = ten (1 ∷ 0 ∷ 0 ∷ []) }
+    ∷ record { pattern = some-clean; log = labels-five; step = 0; numbers = ten (1 ∷ 0 ∷ 0 ∷ []) }
+    ∷ record { pattern = all-clean; log = start-alone; step = 0; numbers = ten (1 ∷ 0 ∷ 0 ∷ []) }
+    ∷ record { pattern = some-clean; log = start-alone; step = 0; numbers = ten (1 ∷ 0 ∷ 0 ∷ []) }
     ∷ []
 
-pub marked-count : length marked ≡ 12
+pub marked-count : length marked ≡ 18
 unfolding marked
 marked-count = refl
 

@@ -2,7 +2,7 @@
 -- Assumes nothing.
 use Prim.Native.Nat.{ℕ, zero, suc, _+_, _-_, _*_, _≤_, _<_}
 use mathlib.Core.Path.{_≡_, refl, sym, ap, ap₂, _∙_, subst, fun-ext}
-use mathlib.Core.Logic.{_↔_, _≢_}
+use mathlib.Core.Logic.{_↔_}
 use mathlib.Core.Bool.{Bool, true, false, not, cond, _&&_}
 use mathlib.Core.List.{List, [], _∷_}
 use native.Mathlib.Omega.{arith}
@@ -20,6 +20,7 @@ use Rattle.necklace.specs.Necklace.{Modality, SOME, ALL, Pattern, Primitive, We
 use Rattle.necklace.specs.Past.{Alike, OnlyAdds}
 use Rattle.necklace.specs.Compute.{holds?, row}
 use Rattle.necklace.proofs.RowMeaning.{row-meaning, row-first, prefixes-member}
+use Rattle.necklace.proofs.Here as Here
 use Rattle.necklace.proofs.EqualPasts as EqualPasts
 use Rattle.necklace.proofs.OnlyAdds as OnlyAdds
 use Rattle.necklace.proofs.Duality.{dual-rows}
@@ -92,6 +93,14 @@ module _ (pattern log result work : List ℕ) (t : T (accepts pattern log result
   pub demand-two-count : judgeAnswer pattern log result work .count ≡ rowsWithBit (resultAfter pattern log result work) (patternIn pattern .count) (logIn log .size)
   demand-two-count = ap (λ (x : Rattle.answer.specs.declared.Answer.Answer). x .count) (answer-accepted pattern log result work a) ∙ counted (logIn log .size) (omega arith)
 
+  -- Step 0 (document 02, ask 3): the first bead holds there, on the route with no link, if and only if its state 0 is final.
+  pub start-holds : T (ruleHolds (resultAfter pattern log result work) 0) ↔ T (member 0 (at (take patternLength pattern) (acceptingAt 0)))
+  unfolding patternOf
+  start-holds =
+      let s = Here.start-holds (log-of-call a) (pattern-of-call a) in
+      let first = row-in-result pattern log result work t 0 (log-of-call a .started) in
+      (λ x. s .0 (rw first at x), λ x. rw first (s .1 x))
+
 -- Demand 3, first half: logs alike in the past of a step, accepted under one pattern, show the same row there.
 pub equal-pasts : (pattern log₁ result₁ work₁ log₂ result₂ work₂ : List ℕ) → T (accepts pattern log₁ result₁ work₁) → T (accepts pattern log₂ result₂ work₂)
     → (v : ℕ) → Alike (logIn log₁) (logIn log₂) v → rowIn (resultAfter pattern log₁ result₁ work₁) v ≡ rowIn (resultAfter pattern log₂ result₂ work₂) v
@@ -121,10 +130,10 @@ module _ (pattern log₁ result₁ work₁ log₂ result₂ work₂ : List ℕ) 
   unfolding patternOf
   only-adds-all r f x = adds .1 (rw r) (λ y. f (rw first y)) (rw second at x)
 
--- The dual property: at a step other than 0, SOME is the denial of ALL with final and other states exchanged.
+-- The dual property: SOME is the denial of ALL with final and other states exchanged.
 -- `Exchanges.dual-every` says it of every pattern that has such a partner.
 module _ (p q log result work : List ℕ) (x : Exchanged (take patternLength p) (take patternLength q))
-    (t : T (accepts p log result work)) (u : T (accepts q log result work)) (v : ℕ) (h : v < logIn log .size) (z : v ≢ 0) where
+    (t : T (accepts p log result work)) (u : T (accepts q log result work)) (v : ℕ) (h : v < logIn log .size) where
   some-bead : patternIn p .bead 0 .modality ≡ SOME
   unfolding patternOf
   some-bead = rw (x .some-rule)
@@ -145,7 +154,7 @@ module _ (p q log result work : List ℕ) (x : Exchanged (take patternLength p) 
 
   pub dual : T (ruleHolds (resultAfter p log result work) v) ↔ (T (ruleHolds (resultAfter q log result work) v) → ⊥)
   dual =
-      let d = dual-rows (log-of-call (passed-all p log result work t)) (pattern-of-call (passed-all p log result work t)) known-labels one-next some-bead all-bead other-states v h z in
+      let d = dual-rows (log-of-call (passed-all p log result work t)) (pattern-of-call (passed-all p log result work t)) known-labels one-next some-bead all-bead other-states v h in
       let first = row-in-result p log result work t v h in
       let second = row-in-result q log result work u v h in
       (λ y g. d .0 (rw first at y) (rw second at g), λ f. rw first (d .1 (λ y. f (rw second y))))

@@ -208,7 +208,7 @@ from-all b t one r = (exchanged-passes b t one (λ e. absurd (omega arith)), all
 -- ---- calls
 
 -- The dual property of every accepted call with a pattern of one bead, an ALL bead or a SOME bead whose table has one next state for
--- each state and label: the call with the exchanged buffer is accepted too, and at a step other than 0 the rule of the one holds if and
+-- each state and label: the call with the exchanged buffer is accepted too, and at every step the rule of the one holds if and
 -- only if that of the other fails.
 module _ (pattern log result work : List ℕ) (t : T (accepts pattern log result work)) (one : beadsIn (take patternLength pattern) ≡ 1)
     (table : at (take patternLength pattern) (ruleAt 0) ≡ 1 → OneNext (labelsIn (take patternLength pattern)) (automatonOf (take patternLength pattern) 0)) where
@@ -226,21 +226,21 @@ module _ (pattern log result work : List ℕ) (t : T (accepts pattern log result
         is-log = rw (exchanged-front pattern, same-labels (take patternLength pattern) (a .is-pattern) one) (a .is-log);
       })
 
-  pub dual-every : (v : ℕ) → v < logIn log .size → v ≢ 0
+  pub dual-every : (v : ℕ) → v < logIn log .size
       → T (ruleHolds (resultAfter pattern log result work) v) ↔ (T (ruleHolds (resultAfter (exchangedBuffer pattern) log result work) v) → ⊥)
-  dual-every v h z = go (ℕ-discrete (at (take patternLength pattern) (ruleAt 0)) 1)
+  dual-every v h = go (ℕ-discrete (at (take patternLength pattern) (ruleAt 0)) 1)
     where
       go : Dec (at (take patternLength pattern) (ruleAt 0) ≡ 1)
           → T (ruleHolds (resultAfter pattern log result work) v) ↔ (T (ruleHolds (resultAfter (exchangedBuffer pattern) log result work) v) → ⊥)
       go (yes r) =
           dual pattern (exchangedBuffer pattern) log result work
-          (rw (exchanged-front pattern) (some-exchanged (take patternLength pattern) (a .is-pattern) one r)) t exchanged-accepts v h z
+          (rw (exchanged-front pattern) (some-exchanged (take patternLength pattern) (a .is-pattern) one r)) t exchanged-accepts v h
       go (no n) =
           let g = there (take patternLength pattern) (a .is-pattern) one in
           let low = g .rule-low in
           let high = g .rule-high in
           let d = dual (exchangedBuffer pattern) pattern log result work
-          (rw (exchanged-front pattern) (all-exchanged (take patternLength pattern) (a .is-pattern) one (omega arith))) exchanged-accepts t v h z
+          (rw (exchanged-front pattern) (all-exchanged (take patternLength pattern) (a .is-pattern) one (omega arith))) exchanged-accepts t v h
           in
           (λ y f. d .0 f y, λ f. whole (decide (ruleHolds (resultAfter pattern log result work) v)) (λ m. f (d .1 m)))
         where

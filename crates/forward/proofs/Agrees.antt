@@ -10,7 +10,7 @@ use mathlib.Core.List.{List, [], _∷_}
 use native.Mathlib.Decide.{ℕ-discrete}
 use native.Mathlib.Omega.{arith}
 use borrow.Author.Tests.{eq-eqb, ne-eqb}
-use lib.Dec.{T, eqb, ltb, eqb→eq, eqb-refl}
+use lib.Dec.{T, eqb, eqb→eq, eqb-refl}
 use Rattle.sets.proofs.Agree.{someBelow-ext}
 use Rattle.sets.specs.Sets.{_∈_, someBelow}
 use Rattle.sets.proofs.Truth.{same, or-cases, and-i, and-l, and-r}
@@ -171,25 +171,18 @@ exchange-forward G A u x r = exchange-ahead G A u (x - u) x r
 
 module _ {c : ℕ} {G : Dag} (g : WellFormed c G) (A : Automaton) (closed : (q a r : ℕ) → r ∈ A .next q a → r < 16) (u v : ℕ) where
   -- SOME: the forward set has an accepting state
-  pub some-forward : some? G A u v ≡ (ltb u v && someBelow 16 (λ r. A .accepting r && forward G A u v r))
+  pub some-forward : some? G A u v ≡ someBelow 16 (λ r. A .accepting r && forward G A u v r)
   unfolding some?
-  some-forward = ap (λ (b : Bool). ltb u v && b) (forward-agrees G A (A .accepting) v u g closed)
+  some-forward = forward-agrees G A (A .accepting) v u g closed
 
-  other-forward : some? G (exchange A) u v ≡ (ltb u v && someBelow 16 (λ r. exchange A .accepting r && forward G A u v r))
+  other-forward : some? G (exchange A) u v ≡ someBelow 16 (λ r. exchange A .accepting r && forward G A u v r)
   unfolding some?
   other-forward =
-      ap (λ (b : Bool). ltb u v && b)
-      (forward-agrees G (exchange A) (exchange A .accepting) v u g closed
+      forward-agrees G (exchange A) (exchange A .accepting) v u g closed
       ∙ someBelow-ext 16 (λ r. exchange A .accepting r && forward G (exchange A) u v r) (λ r. exchange A .accepting r && forward G A u v r)
-      (λ r l. ap (λ (b : Bool). exchange A .accepting r && b) (exchange-forward G A u v r)))
+      (λ r l. ap (λ (b : Bool). exchange A .accepting r && b) (exchange-forward G A u v r))
 
   -- ALL: it has one, and no other state of the automaton
-  pub all-forward : all? G A u v ≡ (ltb u v && (someBelow 16 (λ r. A .accepting r && forward G A u v r) && not (someBelow 16 (λ r. exchange A .accepting r && forward G A u v r))))
+  pub all-forward : all? G A u v ≡ (someBelow 16 (λ r. A .accepting r && forward G A u v r) && not (someBelow 16 (λ r. exchange A .accepting r && forward G A u v r)))
   unfolding all?
-  all-forward =
-      ap₂ (λ (a b : Bool). a && not b) some-forward other-forward
-      ∙ regroup (ltb u v) (someBelow 16 (λ r. A .accepting r && forward G A u v r)) (someBelow 16 (λ r. exchange A .accepting r && forward G A u v r))
-    where
-      regroup : (a b c : Bool) → ((a && b) && not (a && c)) ≡ (a && (b && not c))
-      regroup true b c = refl
-      regroup false b c = refl
+  all-forward = ap₂ (λ (a b : Bool). a && not b) some-forward other-forward

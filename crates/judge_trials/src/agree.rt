@@ -15,13 +15,13 @@ const LINKS: usize = 9;
 
 const ROWS: usize = 15;
 
-const REFUSED: usize = 33;
+const REFUSED: usize = 35;
 
-const DIFFERING: usize = 34;
+const DIFFERING: usize = 36;
 
-const WRONG_COUNT: usize = 35;
+const WRONG_COUNT: usize = 37;
 
-const NOT_CLEARED: usize = 36;
+const NOT_CLEARED: usize = 38;
 
 pub fn try_pairs(pairs: u64, counts: &mut [u64]) {
     let mut r = Random::new(1);

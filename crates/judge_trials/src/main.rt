@@ -4,7 +4,7 @@ mod agree;
 
 fn main() {
     let mut names = [0u8; 2048];
-    let mut counts = [0u64; 38];
+    let mut counts = [0u64; 40];
     let n = trial::load(b"names.txt", &mut names);
     agree::try_pairs(3200, &mut counts);
     tallies::print_counts(&names[..n], &counts);

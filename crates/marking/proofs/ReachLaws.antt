@@ -3,7 +3,7 @@ use Prim.Native.Nat.{ℕ, _<_}
 use mathlib.Core.Path.{_≡_, refl, sym, ap, ap₂, _∙_}
 use mathlib.Core.Bool.{Bool, true, false, cond, not, _&&_}
 use mathlib.Core.List.{List}
-use borrow.Author.Tests.{lt-ltb, eq-eqb, ne-eqb}
+use borrow.Author.Tests.{eq-eqb, ne-eqb}
 use lib.Dec.{eqb}
 use lib.ListN.{getD}
 use Rattle.sets.proofs.Agree.{someBelow-ext}
@@ -51,7 +51,7 @@ pub ruleset kit = (reaches-all, reaches-some)
 -- ---- what it says
 
 module _ {c : ℕ} (pattern log work : List ℕ) (g : WellFormed c (logOf log)) (j u : ℕ) (states : List ℕ)
-    (table : Tabled (logOf log) (automatonOf pattern j) (stepsIn log) work) (pass : ForwardedBy log work u states) (v : ℕ) (up : u < v) (inside : v < stepsIn log) where
+    (table : Tabled (logOf log) (automatonOf pattern j) (stepsIn log) work) (pass : ForwardedBy log work u states) (v : ℕ) (inside : v < stepsIn log) where
   abbrev G : Dag
   G = logOf log
 
@@ -66,7 +66,7 @@ module _ {c : ℕ} (pattern log work : List ℕ) (g : WellFormed c (logOf log)) 
   some-reached : overlaps 16 (at pattern (acceptingAt j)) (getD states v 0) ≡ some? G A u v
   some-reached =
       in-set (A .accepting) (at pattern (acceptingAt j)) (λ r. refl)
-      ∙ sym (some-forward g A (next-within pattern j) u v ∙ ap (λ (b : Bool). b && someBelow 16 (λ r. A .accepting r && forward G A u v r)) (lt-ltb u v up))
+      ∙ sym (some-forward g A (next-within pattern j) u v)
 
   all-reached : reachesAll pattern j (getD states v 0) ≡ all? G A u v
   unfolding reachesAll
@@ -74,9 +74,7 @@ module _ {c : ℕ} (pattern log work : List ℕ) (g : WellFormed c (logOf log)) 
       ap₂ (λ (a b : Bool). a && not b) (in-set (A .accepting) (at pattern (acceptingAt j)) (λ r. refl))
       (in-set (exchange A .accepting) (complement (at pattern (statesAt j)) (at pattern (acceptingAt j)))
       (λ r. sym (member-others (at pattern (statesAt j)) (at pattern (acceptingAt j)) r)))
-      ∙ sym (all-forward g A (next-within pattern j) u v
-      ∙ ap (λ (b : Bool). b && (someBelow 16 (λ r. A .accepting r && forward G A u v r) && not (someBelow 16 (λ r. exchange A .accepting r && forward G A u v r))))
-      (lt-ltb u v up))
+      ∙ sym (all-forward g A (next-within pattern j) u v)
 
   pub reaches-satisfies : reachesBy pattern j (getD states v 0) ≡ satisfies? (logOf log) (patternOf pattern .bead j) u v
   unfolding reachesBy patternOf

@@ -3,7 +3,7 @@ ghost use mathlib.Core.Path.{_≡_};
 ghost use Prim.Native.Nat.{_<_, _≤_};
 ghost use lib.ListN.{length};
 ghost use Rattle.passes.specs.Passes.{BeadIn};
-ghost use Rattle.marking.specs.Marking.{reachesAll, reachesBy, reachesAt, markedIf, Added, MarkedAfter};
+ghost use Rattle.marking.specs.Marking.{reachesAll, reachesBy, reachesAt, markedIf, Added, AllMarked};
 
 // Does an ALL bead reach the step that has this set in a forward pass? The set has an accepting state, and no other.
 fn reaches_all(pattern: &[u16], bead: usize, set: u16) -> bool
@@ -49,7 +49,7 @@ fn mark_at(pattern: &[u16], bead: usize, step: usize, states: &[u16], prefixes: 
     mark(bead, step, reached, prefixes);
 }
 
-// Adds the bead to the prefixes of the steps after u that it reaches, by their sets in the forward pass from u.
+// Adds the bead to the prefixes of the steps, from u on, that it reaches, by their sets in the forward pass from u.
 pub fn mark_reached(
     pattern: &[u16],
     bead: usize,
@@ -62,20 +62,20 @@ pub fn mark_reached(
     requires { ⌜ (u < n) × (n ≤ 1024) × (1024 ≤ length (now states)) × (1024 ≤ length (now prefixes)) ⌝ }
     ensures { λ _. ⌜ Added (reachesAt (now (pattern .entry)) bead (now (states .entry))) bead u n (now (prefixes .entry)) (now (prefixes .exit)) ⌝ }
 {
-    let mut v = u + 1;
+    let mut v = u;
     while v < n {
         mark_at(pattern, bead, v, states, prefixes);
         v += 1;
     }
 }
 
-// Has every step after u the bead already? From the last one down, because late steps are the ones that lack it longest.
+// Has every step from u on the bead already? From the last one down, because late steps are the ones that lack it longest.
 pub fn all_marked(bead: usize, u: usize, n: usize, prefixes: &[u16]) -> bool
     requires { ⌜ (bead < 16) × (u < n) × (n ≤ 1024) × (1024 ≤ length (now prefixes)) ⌝ }
-    ensures { λ r. ⌜ MarkedAfter bead u n (now (prefixes .entry)) r ⌝ }
+    ensures { λ r. ⌜ AllMarked bead u n (now (prefixes .entry)) r ⌝ }
 {
     let mut v = n;
-    while u + 1 < v {
+    while u < v {
         let there = sets::member(prefixes[v - 1], bead as u16);
         if there {
             v -= 1;

@@ -1,4 +1,4 @@
--- The cases that document 01 marks P, and the slips that it names, on abstract dags.
+-- The cases that document 01 marks P, as ask 3 has them, and the slips that it names, on abstract dags.
 use Prim.Native.Nat.{ℕ}
 use mathlib.Core.Path.{_≡_, refl}
 use mathlib.Core.List.{List, [], _∷_, _++_, map}
@@ -55,30 +55,55 @@ vented = listedAutomaton second-next (1 ∷ [])
 abbrev pub two-beads : List Primitive
 two-beads = bead SOME first-automaton ∷ bead ALL second-automaton ∷ []
 
+-- words without vent, eight times
+abbrev pub eight-beads : List Primitive
+eight-beads =
+    bead SOME second-automaton
+    ∷ bead ALL second-automaton
+    ∷ bead SOME second-automaton
+    ∷ bead ALL second-automaton
+    ∷ bead SOME second-automaton
+    ∷ bead ALL second-automaton
+    ∷ bead SOME second-automaton
+    ∷ bead ALL second-automaton
+    ∷ []
+
 abbrev row-of-listing : ℕ → List ℕ → Case
 row-of-listing v ns = record { dag = listing; pattern = two-beads; vertex = v; numbers = ten ns }
 
--- vertex 1 after vertex 0, with some labels, under one bead
-abbrev row-of-one : List ℕ → Primitive → List ℕ → Case
-row-of-one ls b ns = record { dag = ([], []) ∷ (ls, 0 ∷ []) ∷ []; pattern = b ∷ []; vertex = 1; numbers = ten ns }
+-- vertex 0, and vertex 1 after it with some labels, under one bead
+abbrev row-of-one : List ℕ → Primitive → ℕ → List ℕ → Case
+row-of-one ls b v ns = record { dag = ([], []) ∷ (ls, 0 ∷ []) ∷ []; pattern = b ∷ []; vertex = v; numbers = ten ns }
+
+-- vertex 0 alone
+abbrev row-of-start : List Primitive → List ℕ → Case
+row-of-start bs ns = record { dag = ([], []) ∷ []; pattern = bs; vertex = 0; numbers = ten ns }
 
 unfoldable pub cases : List Case
 cases =
     row-of-listing 0 (0 ∷ [])
-    ∷ row-of-listing 1 (1 ∷ [])
+    ∷ row-of-listing 1 (3 ∷ 0 ∷ 1 ∷ 1 ∷ [])
     ∷ row-of-listing 2 (0 ∷ [])
     ∷ row-of-listing 3 (2 ∷ 0 ∷ 1 ∷ 3 ∷ [])
     ∷ row-of-listing 4 (0 ∷ [])
     ∷ row-of-listing 5 (2 ∷ 0 ∷ 1 ∷ 5 ∷ [])
     ∷ row-of-listing 6 (3 ∷ 0 ∷ 1 ∷ 6 ∷ [])
-    ∷ (record { dag = ([], []) ∷ []; pattern = two-beads; vertex = 0; numbers = ten (0 ∷ []) })
-    ∷ row-of-one [] (bead ALL second-automaton) (1 ∷ 0 ∷ 1 ∷ [])
-    ∷ row-of-one [] (bead SOME vented) (0 ∷ [])
-    ∷ row-of-one (0 ∷ 2 ∷ []) (bead ALL second-automaton) (0 ∷ [])
-    ∷ row-of-one (0 ∷ 2 ∷ []) (bead SOME second-automaton) (1 ∷ 0 ∷ 1 ∷ [])
+    ∷ row-of-start two-beads (0 ∷ [])
+    ∷ row-of-one [] (bead ALL second-automaton) 1 (1 ∷ 0 ∷ 1 ∷ [])
+    ∷ row-of-one [] (bead SOME vented) 1 (0 ∷ [])
+    ∷ row-of-one (0 ∷ 2 ∷ []) (bead ALL second-automaton) 1 (0 ∷ [])
+    ∷ row-of-one (0 ∷ 2 ∷ []) (bead SOME second-automaton) 1 (1 ∷ 0 ∷ 1 ∷ [])
+    -- vertex 0 of the same: it holds where state 0 accepts, and its pivots are all 0
+    ∷ row-of-one [] (bead ALL second-automaton) 0 (1 ∷ 0 ∷ 0 ∷ [])
+    ∷ row-of-one [] (bead SOME vented) 0 (0 ∷ [])
+    ∷ row-of-one (0 ∷ 2 ∷ []) (bead ALL second-automaton) 0 (1 ∷ 0 ∷ 0 ∷ [])
+    ∷ row-of-one (0 ∷ 2 ∷ []) (bead SOME second-automaton) 0 (1 ∷ 0 ∷ 0 ∷ [])
+    ∷ row-of-start (bead SOME second-automaton ∷ []) (1 ∷ 0 ∷ 0 ∷ [])
+    ∷ row-of-start (bead ALL second-automaton ∷ []) (1 ∷ 0 ∷ 0 ∷ [])
+    ∷ row-of-start eight-beads (255 ∷ 0 ∷ 0 ∷ 0 ∷ 0 ∷ 0 ∷ 0 ∷ 0 ∷ 0 ∷ 0 ∷ [])
     ∷ []
 
-pub cases-count : length cases ≡ 12
+pub cases-count : length cases ≡ 19
 unfolding cases
 cases-count = refl
 

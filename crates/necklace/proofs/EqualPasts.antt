@@ -4,7 +4,6 @@ use mathlib.Core.Path.{_≡_, refl, sym, ap, _∙_, subst, fun-ext}
 use mathlib.Core.Logic.{inl, inr, _↔_}
 use mathlib.Core.Bool.{Bool, true, false}
 use mathlib.Core.List.{List, [], _∷_, _++_}
-use native.Mathlib.Omega.{arith}
 use lib.Dec.{T}
 use Rattle.sets.proofs.Agree.{no-members}
 use Rattle.sets.specs.Sets.{_∈_, setOf}
@@ -17,7 +16,7 @@ use Rattle.necklace.specs.Past.{Past, Alike}
 use Rattle.necklace.specs.Compute.{some?, all?, satisfiesBy?, satisfies?, holds?, serves?, seek, before, pivots, prefixes, row}
 use Rattle.necklace.proofs.Paths.{path-route, route-join}
 use Rattle.necklace.proofs.Modalities.{some-agrees, satisfies?-route}
-use Rattle.necklace.proofs.Prefixes.{seek-first}
+use Rattle.necklace.proofs.Prefixes.{before-first, before-holds}
 
 -- Every vertex of the past of v in G has the same predecessors and labels in H.
 record Half (G H : Dag) (v : ℕ) : Type 0 where
@@ -51,16 +50,16 @@ narrow p h = record { edges = λ x u q. h .edges x u (past-trans q p); labels = 
 module _ {G H : Dag} where
   move-path : {u v : ℕ} {xs : List ℕ} → Half G H v → DagPath G u xs v → DagPath H u xs v
   move-path h here = here
-  move-path h (edge {u = u} {x = x} m p) = edge (h .edges x u (path-route p) .0 m) (move-path h p)
+  move-path h (edge {u = u} {x = x} m p) = edge (h .edges x u (inr (path-route p)) .0 m) (move-path h p)
 
   abbrev move-route : {u v : ℕ} → Half G H v → Route G u v → Route H u v
-  move-route h r = record { first = r .first; rest = r .rest; path = move-path h (r .path) }
+  move-route h r = record { after = r .after; path = move-path h (r .path) }
 
   move-reading : {u v : ℕ} {xs w : List ℕ} → Half G H v → DagPath G u xs v → Reading G xs w → Reading H xs w
   move-reading h here done = done
   move-reading h (edge {x = x} m p) (silent b r) =
-      silent (no-members (H .labels x) (λ a n. subst (λ (l : List ℕ). a ∈ l) b (h .labels x a (path-route p) .1 n))) (move-reading h p r)
-  move-reading h (edge {x = x} m p) (letter {a = a} l r) = letter (h .labels x a (path-route p) .0 l) (move-reading h p r)
+      silent (no-members (H .labels x) (λ a n. subst (λ (l : List ℕ). a ∈ l) b (h .labels x a (inr (path-route p)) .1 n))) (move-reading h p r)
+  move-reading h (edge {x = x} m p) (letter {a = a} l r) = letter (h .labels x a (inr (path-route p)) .0 l) (move-reading h p r)
 
   move-some : (A : Automaton) (u v : ℕ) → Half G H v → Some G A u v → Some H A u v
   move-some A u v h s = record {
@@ -99,9 +98,9 @@ module _ {c d : ℕ} {G H : Dag} (g : WellFormed c G) (k : WellFormed d H) where
     unfolding holds?
     holds-goes zero v h t = t
     holds-goes (suc j) v h t =
-        let b = someBelow-out v (serves? G P j v) t in
+        let b = someBelow-out (suc v) (serves? G P j v) t in
         let u : ℕ = b .0 in
-        someBelow-in v (serves? H P j v) u (b .1) (serves-goes j v u h (holds-goes j u) (b .2))
+        someBelow-in (suc v) (serves? H P j v) u (b .1) (serves-goes j v u h (holds-goes j u) (b .2))
 
 module _ {c d : ℕ} {G H : Dag} (g : WellFormed c G) (k : WellFormed d H) (P : Pattern) where
   holds-same : (j v : ℕ) → Halves G H v → holds? G P j v ≡ holds? H P j v
@@ -109,7 +108,7 @@ module _ {c d : ℕ} {G H : Dag} (g : WellFormed c G) (k : WellFormed d H) (P : 
 
   before-same : (j v : ℕ) → Halves G H v → before G P j v ≡ before H P j v
   unfolding before
-  before-same j v h = ap (λ (f : ℕ → Bool). seek f v 0)
+  before-same j v h = ap (λ (f : ℕ → Bool). seek f (suc v) 0)
       (fun-ext (λ u. same (serves? G P j v u) (serves? H P j v u)
       (serves-goes g k P j v u h (holds-goes g k P j u)) (serves-goes k g P j v u (turn h) (holds-goes k g P j u))))
 
@@ -118,14 +117,12 @@ module _ {c d : ℕ} {G H : Dag} (g : WellFormed c G) (k : WellFormed d H) (P : 
   prefixes-same v h = ap (λ (f : ℕ → Bool). setOf (P .count) f) (fun-ext (λ j. holds-same (suc j) v h))
 
   pivots-same : (j v : ℕ) → Halves G H v → T (holds? G P j v) → pivots G P j v ≡ pivots H P j v
-  unfolding pivots holds? before
+  unfolding pivots
   pivots-same zero v h t = refl
   pivots-same (suc j) v h t =
-      let b = someBelow-out v (serves? G P j v) t in
-      let f = seek-first (serves? G P j v) v 0 (b .0) (omega arith) (let l = b .1 in omega arith) (b .2) in
       let u : ℕ = before G P j v in
-      let s = and-r (holds? G P j u) (satisfies? G (P .bead j) u v) (f .passes) in
-      let e = pivots-same j u (within g k P j u v h s) (and-l (holds? G P j u) (satisfies? G (P .bead j) u v) (f .passes)) in
+      let s = and-r (holds? G P j u) (satisfies? G (P .bead j) u v) (before-first G P j v t .passes) in
+      let e = pivots-same j u (within g k P j u v h s) (before-holds G P j v t) in
       ap (λ (l : List ℕ). l ++ (v ∷ [])) (e ∙ ap (pivots H P j) (before-same j v h))
 
   pub equal-pasts : (v : ℕ) → Alike G H v → row G P v ≡ row H P v

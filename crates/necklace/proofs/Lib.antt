@@ -6,6 +6,7 @@ pub mod Backward
 pub mod Modalities
 pub mod Prefixes
 pub mod RowMeaning
+pub mod Here
 pub mod Rooted
 pub mod EqualPasts
 pub mod OnlyAdds

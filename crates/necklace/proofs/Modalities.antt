@@ -3,41 +3,36 @@ use Prim.Native.Nat.{ℕ, _<_}
 use mathlib.Core.Path.{_≡_, refl}
 use mathlib.Core.Logic.{_⊎_, inl, inr, _↔_}
 use mathlib.Core.Bool.{not, _&&_}
-use mathlib.Core.List.{List, [], _∷_}
-use native.Mathlib.Omega.{arith}
-use lib.Dec.{T, ltb, ltb→lt, lt→ltb, T-not, not-T}
+use mathlib.Core.List.{List}
+use lib.Dec.{T, ltb, lt→ltb, T-not, not-T}
 use Rattle.sets.proofs.Truth.{and-i, and-l, and-r, decide}
 use Rattle.necklace.specs.Dag.{Dag, WellFormed, Route, entered, Reading, done, silent, letter}
 use Rattle.necklace.specs.Automaton.{Automaton, Run, stay, move, Accepts, OneNext, exchange}
 use Rattle.necklace.specs.Necklace.{Some, All, Modality, SOME, ALL, Primitive, SatisfiesBy, Satisfies}
 use Rattle.necklace.specs.Compute.{backward, some?, all?, satisfiesBy?, satisfies?}
 use Rattle.necklace.proofs.Lists.{only}
-use Rattle.necklace.proofs.Paths.{nothing, route-lt, some-reading}
-use Rattle.necklace.proofs.Backward.{LeadsBy, backward-sound, backward-complete}
+use Rattle.necklace.proofs.Paths.{some-reading}
+use Rattle.necklace.proofs.Backward.{Leads, backward-sound, backward-complete}
 
 module _ {c : ℕ} {G : Dag} (g : WellFormed c G) (A : Automaton) (u v : ℕ) where
   pub some-agrees : T (some? G A u v) ↔ Some G A u v
   unfolding some?
   some-agrees = (out, into)
     where
-      out : T (ltb u v && backward G A (A .accepting) v u 0) → Some G A u v
-      out t =
-          let l = ltb→lt u v (and-l (ltb u v) (backward G A (A .accepting) v u 0) t) in
-          let k = backward-sound G A (A .accepting) v u 0 (and-r (ltb u v) (backward G A (A .accepting) v u 0) t) in
-          go l (k .0) (k .1)
+      out : T (backward G A (A .accepting) v u 0) → Some G A u v
+      out t = go (backward-sound G A (A .accepting) v u 0 t)
         where
-          go : u < v → (xs : List ℕ) → LeadsBy G A (A .accepting) v u 0 xs → Some G A u v
-          go l [] h = let e = nothing (h .path) (h .reading) (h .run) in let e0 = e .0 in absurd (omega arith)
-          go l (x ∷ xs) h = record {
-            route = record { first = x; rest = xs; path = h .path };
-            word = h .word;
-            reading = h .reading;
-            accepts = record { last = h .last; run = h .run; accepted = h .inside };
+          go : Leads G A (A .accepting) v u 0 → Some G A u v
+          go k = record {
+            route = record { after = k .0; path = k .1 .path };
+            word = k .1 .word;
+            reading = k .1 .reading;
+            accepts = record { last = k .1 .last; run = k .1 .run; accepted = k .1 .inside };
           }
 
-      into : Some G A u v → T (ltb u v && backward G A (A .accepting) v u 0)
-      into s = and-i (ltb u v) (backward G A (A .accepting) v u 0) (lt→ltb u v (route-lt g (s .route)))
-          (backward-complete G A (A .accepting) v g u 0 (
+      into : Some G A u v → T (backward G A (A .accepting) v u 0)
+      into s =
+          backward-complete G A (A .accepting) v g u 0 (
             entered (s .route),
             record {
               path = s .route .path;
@@ -47,7 +42,7 @@ module _ {c : ℕ} {G : Dag} (g : WellFormed c G) (A : Automaton) (u v : ℕ) wh
               run = s .accepts .run;
               inside = s .accepts .accepted;
             },
-          ))
+          )
 
 -- A complete and deterministic automaton has exactly one run over a reading, and it stays among the automaton's states.
 module _ {c : ℕ} {G : Dag} (g : WellFormed c G) {A : Automaton} (d : OneNext c A) where

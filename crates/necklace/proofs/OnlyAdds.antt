@@ -12,7 +12,7 @@ use Rattle.necklace.specs.Necklace.{Some, All, SOME, ALL, Pattern, WellF
 use Rattle.necklace.specs.Past.{OnlyAdds}
 use Rattle.necklace.specs.Compute.{row, prefixes, pivots, before, seek, holds?, some?, backward, pass}
 use Rattle.necklace.specs.Listed.{listedDag, listedAutomaton, bead, listedPattern}
-use Rattle.necklace.proofs.Paths.{route-lt, route-inside}
+use Rattle.necklace.proofs.Paths.{route-inside}
 use Rattle.necklace.proofs.RowMeaning.{first-bit}
 use Rattle.necklace.proofs.Rooted.{rooted}
 
@@ -27,7 +27,7 @@ module _ {G H : Dag} (a : OnlyAdds G H) where
   more-readings (letter {x = x} {a = l} m r) = letter (a .labels x l m) (more-readings r)
 
   abbrev more-routes : {u v : ℕ} → Route G u v → Route H u v
-  more-routes r = record { first = r .first; rest = r .rest; path = more-paths (r .path) }
+  more-routes r = record { after = r .after; path = more-paths (r .path) }
 
   pub some-stays : (A : Automaton) (u v : ℕ) → Some G A u v → Some H A u v
   some-stays A u v s = record { route = more-routes (s .route); word = s .word; reading = more-readings (s .reading); accepts = s .accepts }
@@ -50,10 +50,9 @@ module _ {c : ℕ} {G H : Dag} (g : WellFormed c G) (h : WellFormed c H) {P : Pa
       all : P .bead 0 .modality ≡ ALL → (T (member 0 (getD (row G P v) 0 0)) → ⊥) → T (member 0 (getD (row H P v) 0 0)) → ⊥
       all e f t =
           let s : All H A 0 v = rw e at (first-bit h p v .0 t) in
-          let l = route-lt h (s .route) in
-          let i = route-inside h (s .route) in
+          let i = route-inside h (h .started) (s .route) in
           let z = a .size in
-          f (first-bit g p v .1 (rw e (all-came a A 0 v (rooted g v (omega arith) (λ n. omega arith)) s)))
+          f (first-bit g p v .1 (rw e (all-came a A 0 v (rooted g v (omega arith)) s)))
 
 -- A first label on a bare vertex takes the empty letter away, and a SOME is lost: every edge and label of `bare` stands in `labelled`.
 abbrev pub bare : Dag

@@ -1,11 +1,11 @@
 -- Paths, routes and readings: a path rises, paths are joined, and every path has a reading.
 use Prim.Native.Nat.{ℕ, _≤_, _<_}
 use mathlib.Core.Path.{_≡_, refl}
-use mathlib.Core.Logic.{_⊎_, inl, inr}
+use mathlib.Core.Logic.{inl}
 use mathlib.Core.List.{List, [], _∷_, _++_}
 use native.Mathlib.Omega.{arith}
 use Rattle.sets.specs.Sets.{_∈_}
-use Rattle.necklace.specs.Dag.{Dag, WellFormed, DagPath, here, edge, Route, Reading, done, silent, letter}
+use Rattle.necklace.specs.Dag.{Dag, WellFormed, DagPath, here, edge, Route, entered, Reading, done, silent, letter}
 use Rattle.necklace.specs.Automaton.{Run, stay}
 
 module _ {c : ℕ} {G : Dag} (g : WellFormed c G) where
@@ -13,20 +13,25 @@ module _ {c : ℕ} {G : Dag} (g : WellFormed c G) where
   path-le here = omega arith
   path-le (edge {u = u} {x = x} m p) = let h = g .rising u x m in let k = path-le p in omega arith
 
-  pub path-lt : {u x v : ℕ} {xs : List ℕ} → DagPath G u (x ∷ xs) v → u < v
-  path-lt (edge {u = u} {x = x} m p) = let h = g .rising u x m in let k = path-le p in omega arith
+  -- a route never falls
+  pub route-le : {u v : ℕ} → Route G u v → u ≤ v
+  route-le r = path-le (r .path)
 
-  -- a route rises, so none leads from a vertex to itself
-  pub route-lt : {u v : ℕ} → Route G u v → u < v
-  route-lt r = path-lt (r .path)
+  -- the one route from a vertex to itself enters nothing
+  pub nothing-entered : {u : ℕ} (r : Route G u u) → entered r ≡ []
+  nothing-entered {u} r = go (r .path) (omega arith)
+    where
+      go : {x v : ℕ} {xs : List ℕ} → DagPath G x xs v → v ≤ x → xs ≡ []
+      go here l = refl
+      go (edge {u = y} {x = x} m p) l = let h = g .rising y x m in let k = path-le p in absurd (omega arith)
 
-  pub path-inside : {u x v : ℕ} {xs : List ℕ} → DagPath G u (x ∷ xs) v → v < G .size
-  path-inside (edge {u = u} {x = x} m here) = g .edges-inside u x m
-  path-inside (edge m (edge n p)) = path-inside (edge n p)
+  pub path-inside : {u v : ℕ} {xs : List ℕ} → u < G .size → DagPath G u xs v → v < G .size
+  path-inside h here = h
+  path-inside h (edge {u = u} {x = x} m p) = path-inside (g .edges-inside u x m) p
 
-  -- a route ends at a vertex of the dag
-  pub route-inside : {u v : ℕ} → Route G u v → v < G .size
-  route-inside r = path-inside (r .path)
+  -- a route from a vertex of the dag ends at one
+  pub route-inside : {u v : ℕ} → u < G .size → Route G u v → v < G .size
+  route-inside h r = path-inside h (r .path)
 
 -- a path, a reading and a run of nothing
 pub nothing : {G : Dag} {δ : ℕ → ℕ → List ℕ} {u v q r : ℕ} {w : List ℕ} → DagPath G u [] v → Reading G [] w → Run δ q w r → (u ≡ v) × (q ≡ r)
@@ -37,15 +42,17 @@ path-join here q = q
 path-join (edge m p) q = edge m (path-join p q)
 
 pub route-join : {G : Dag} {x y z : ℕ} → Route G x y → Route G y z → Route G x z
-route-join r s = record { first = r .first; rest = r .rest ++ (s .first ∷ s .rest); path = path-join (r .path) (s .path) }
+route-join r s = record { after = r .after ++ s .after; path = path-join (r .path) (s .path) }
 
 pub one-edge : {G : Dag} {x y : ℕ} → x ∈ G .preds y → Route G x y
-one-edge {y = y} m = record { first = y; rest = []; path = edge m here }
+one-edge {y = y} m = record { after = y ∷ []; path = edge m here }
 
--- a path has no edge, or is a route
-pub path-route : {G : Dag} {x v : ℕ} {xs : List ℕ} → DagPath G x xs v → (x ≡ v) ⊎ Route G x v
-path-route here = inl refl
-path-route (edge {x = y} {xs = ys} m p) = inr (record { first = y; rest = ys; path = edge m p })
+-- every vertex has a route to itself
+abbrev pub no-edge : {G : Dag} {u : ℕ} → Route G u u
+no-edge = record { after = []; path = here }
+
+pub path-route : {G : Dag} {x v : ℕ} {xs : List ℕ} → DagPath G x xs v → Route G x v
+path-route {xs = xs} p = record { after = xs; path = p }
 
 -- every list of vertices has a reading
 pub some-reading : (G : Dag) (xs : List ℕ) → (w : List ℕ) × Reading G xs w

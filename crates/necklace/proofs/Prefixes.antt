@@ -3,7 +3,7 @@ use Prim.Native.Nat.{ℕ, zero, suc, _+_, _-_, _≤_, _<_}
 use mathlib.Core.Path.{_≡_, refl, sym, _∙_, subst}
 use mathlib.Core.Logic.{_⊎_, inl, inr, _↔_}
 use mathlib.Core.Bool.{Bool, true, false, cond}
-use native.Mathlib.Nat.{not-suc-le-zero, eq-or-lt-of-le}
+use native.Mathlib.Nat.{not-suc-le-zero, eq-or-lt-of-le, lt-of-not-le}
 use native.Mathlib.Numerals.{add-one}
 use native.Mathlib.Omega.{arith}
 use lib.Dec.{T, eqb→eq, eqb-refl, leb, leb→le, le→leb}
@@ -12,8 +12,8 @@ use Rattle.sets.proofs.Truth.{and-i, and-l, and-r, yes-true, no-false}
 use Rattle.sets.proofs.Laws.{someBelow-out, someBelow-in}
 use Rattle.necklace.specs.Dag.{Dag, WellFormed}
 use Rattle.necklace.specs.Necklace.{Pattern, WellFormedPattern, Satisfies, Holds, Serves}
-use Rattle.necklace.specs.Compute.{satisfies?, holds?, serves?, seek}
-use Rattle.necklace.proofs.Paths.{route-lt}
+use Rattle.necklace.specs.Compute.{satisfies?, holds?, serves?, seek, before}
+use Rattle.necklace.proofs.Paths.{route-le}
 use Rattle.necklace.proofs.Modalities.{satisfies-agrees, satisfies-route}
 
 -- No bead holds at vertex 0 alone; one bead more holds at v where some vertex serves as the pivot before it.
@@ -62,9 +62,9 @@ module _ {G : Dag} {P : Pattern} where
   holds-suc k v = (serves-of k v, λ s. longer k v (s .0) (s .1))
 
 module _ {c : ℕ} {G : Dag} (g : WellFormed c G) {P : Pattern} (p : WellFormedPattern c P) where
-  -- a vertex that serves is smaller than the pivot after it
-  pub serves-lt : (k v u : ℕ) → Serves G P k v u → u < v
-  serves-lt k v u s = route-lt g (satisfies-route g (P .bead k) u v (s .next))
+  -- a vertex that serves is not larger than the pivot after it
+  pub serves-le : (k v u : ℕ) → Serves G P k v u → u ≤ v
+  serves-le k v u s = route-le g (satisfies-route g (P .bead k) u v (s .next))
 
   serves-by : (k v u : ℕ) → k < P .count → T (holds? G P k u) ↔ Holds G P k u → T (serves? G P k v u) ↔ Serves G P k v u
   serves-by k v u l f = (
@@ -83,10 +83,10 @@ module _ {c : ℕ} {G : Dag} (g : WellFormed c G) {P : Pattern} (p : WellFormedP
   holds-agrees zero v l = (λ t. holds-zero v .1 (eqb→eq v 0 t), λ h. rw (holds-zero v .0 h) (eqb-refl 0))
   holds-agrees (suc k) v l = go (λ u. serves-by k v u l (holds-agrees k u (omega arith)))
     where
-      go : ((u : ℕ) → T (serves? G P k v u) ↔ Serves G P k v u) → T (someBelow v (serves? G P k v)) ↔ Holds G P (suc k) v
+      go : ((u : ℕ) → T (serves? G P k v u) ↔ Serves G P k v u) → T (someBelow (suc v) (serves? G P k v)) ↔ Holds G P (suc k) v
       go f = (
-        λ t. let b = someBelow-out v (serves? G P k v) t in holds-suc k v .1 (b .0, f (b .0) .0 (b .2)),
-        λ h. let s = holds-suc k v .0 h in someBelow-in v (serves? G P k v) (s .0) (serves-lt k v (s .0) (s .1)) (f (s .0) .1 (s .1)),
+        λ t. let b = someBelow-out (suc v) (serves? G P k v) t in holds-suc k v .1 (b .0, f (b .0) .0 (b .2)),
+        λ h. let s = holds-suc k v .0 h in someBelow-in (suc v) (serves? G P k v) (s .0) (let l = serves-le k v (s .0) (s .1) in omega arith) (f (s .0) .1 (s .1)),
       )
 
   pub serves-agrees : (k v u : ℕ) → k < P .count → T (serves? G P k v u) ↔ Serves G P k v u
@@ -123,6 +123,25 @@ seek-first f (suc d) i j l k t = go (f i) refl (eq-or-lt-of-le l) (λ h. seek-fi
         step : (m : ℕ) → m < seek f d (suc i) → T (f m) → First f (suc i) (seek f d (suc i)) → (i ≡ m) ⊎ (i < m) → ⊥
         step m b z r (inl x) = rw (sym x, e) at z
         step m b z r (inr x) = r .smaller m x b z
+
+-- Where one bead more holds, the vertex picked before v is the smallest that serves, and it is not larger than v.
+module _ (G : Dag) (P : Pattern) (k v : ℕ) (t : T (holds? G P (suc k) v)) where
+  pub before-first : First (serves? G P k v) 0 (before G P k v)
+  unfolding holds? before
+  before-first =
+      let b = someBelow-out (suc v) (serves? G P k v) t in
+      seek-first (serves? G P k v) (suc v) 0 (b .0) (omega arith) (let l = b .1 in omega arith) (b .2)
+
+  pub before-holds : T (holds? G P k (before G P k v))
+  before-holds = and-l (holds? G P k (before G P k v)) (satisfies? G (P .bead k) (before G P k v) v) (before-first .passes)
+
+  pub before-le : before G P k v ≤ v
+  unfolding holds?
+  before-le =
+      let b = someBelow-out (suc v) (serves? G P k v) t in
+      let h : before G P k v < suc (b .0) = lt-of-not-le (λ (l : b .0 < before G P k v). before-first .smaller (b .0) (omega arith) l (b .2)) in
+      let l = b .1 in
+      omega arith
 
 -- The search as a loop makes it: what is left of it, from i up to n, gives the answer.
 pub seek-stop : (f : ℕ → Bool) (n i : ℕ) → i < n → f i ≡ true → seek f (n - i) i ≡ i

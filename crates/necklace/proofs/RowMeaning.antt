@@ -12,27 +12,26 @@ use lib.Dec.{T, eqb→eq, T-not}
 use lib.ListN.{length, getD, take, drop, replicate, length-append, length-take, length-replicate, List·getD-append}
 use lib.Seq.{getD-append-seam}
 use Rattle.sets.specs.Sets.{member}
-use Rattle.sets.proofs.Truth.{and-l, same, decide, yes-true, no-false}
-use Rattle.sets.proofs.Laws.{ext, member-setOf, setOf-below, someBelow-out}
+use Rattle.sets.proofs.Truth.{same, decide, yes-true, no-false}
+use Rattle.sets.proofs.Laws.{ext, member-setOf, setOf-below}
 use Rattle.necklace.specs.Dag.{Dag, WellFormed}
 use Rattle.necklace.specs.Necklace.{Pattern, WellFormedPattern, Satisfies, Holds, Least, Picked, IsRow}
-use Rattle.necklace.specs.Compute.{satisfies?, holds?, serves?, before, pivots, prefixes, row}
-use Rattle.necklace.proofs.Prefixes.{holds-zero, holds-suc, holds-agrees, serves-agrees, seek-first}
+use Rattle.necklace.specs.Compute.{holds?, before, pivots, prefixes, row}
+use Rattle.necklace.proofs.Prefixes.{holds-zero, holds-suc, holds-agrees, serves-agrees, before-first, before-holds}
 
 -- ---- the pivots
 
 module _ {c : ℕ} {G : Dag} (g : WellFormed c G) {P : Pattern} (p : WellFormedPattern c P) where
   picked-by : (k v : ℕ) → k ≤ P .count → T (holds? G P k v) → Picked G P k v (pivots G P k v)
-  unfolding holds? pivots before
+  unfolding holds? pivots
   picked-by zero v l t = (eqb→eq v 0 t, refl)
   picked-by (suc k) v l t =
-      let b = someBelow-out v (serves? G P k v) t in
-      let f = seek-first (serves? G P k v) v 0 (b .0) (omega arith) (let z = b .1 in omega arith) (b .2) in
+      let f = before-first G P k v t in
       let u : ℕ = before G P k v in (
         u,
         record { has = serves-agrees g p k v u l .0 (f .passes); smaller = λ m a s. f .smaller m (omega arith) a (serves-agrees g p k v m l .1 s) },
         pivots G P k u,
-        picked-by k u (omega arith) (and-l (holds? G P k u) (satisfies? G (P .bead k) u v) (f .passes)),
+        picked-by k u (omega arith) (before-holds G P k v t),
         refl,
       )
 

@@ -23,7 +23,7 @@ use Rattle.necklace.specs.Tests.{implies, everyOf, empty, includes, same
 use Rattle.necklace.specs.Tests.{wellFormedAt, wellFormed?, acceptsFrom, accepts?, oneBelow, oneNext?, isAll, differ}
 use Rattle.necklace.specs.Tests.{wellFormedBead, wellFormedPattern?, past?, alikeAt, alike?, onlyAddsAt, onlyAdds?}
 use Rattle.necklace.proofs.Lists.{someOf-out, someOf-in, elem-out, elem-in, elem-agrees}
-use Rattle.necklace.proofs.Paths.{route-lt, some-reading}
+use Rattle.necklace.proofs.Paths.{route-le, some-reading}
 use Rattle.necklace.proofs.Modalities.{some-agrees}
 
 -- ---- what is made of tests
@@ -314,7 +314,7 @@ wellFormedPattern-agrees c P = (λ t. out (parts .0 t), λ p. parts .1 (into p))
 
 past-le : {c : ℕ} {G : Dag} → WellFormed c G → (v x : ℕ) → Past G v x → x < suc v
 past-le g v x (inl e) = omega arith
-past-le g v x (inr r) = let l = route-lt g r in omega arith
+past-le g v x (inr r) = let l = route-le g r in omega arith
 
 module _ {c d : ℕ} {G H : Dag} (g : WellFormed c G) (h : WellFormed d H) where
   pub alike-agrees : (v : ℕ) → T (alike? G H v) ↔ Alike G H v

@@ -3,7 +3,7 @@
 use Prim.Native.Nat.{ℕ, zero, suc}
 use mathlib.Core.Bool.{Bool, true, false, not, cond, _&&_, _||_}
 use mathlib.Core.List.{List, [], _∷_, _++_}
-use lib.Dec.{eqb, ltb}
+use lib.Dec.{eqb}
 use lib.ListN.{take, replicate}
 use Rattle.sets.specs.Sets.{setOf, someBelow}
 use Rattle.necklace.specs.Dag.{Dag}
@@ -38,9 +38,9 @@ unfoldable pub backward : Dag → Automaton → (ℕ → Bool) → ℕ → ℕ �
 unfolding pass
 backward G A F v w q = pass G A v (λ x r. eqb x v && F r) w q
 
--- SOME: from state 0 at u; a route rises, so none leads from a vertex to itself.
+-- SOME: from state 0 at u.
 unfoldable pub some? : Dag → Automaton → ℕ → ℕ → Bool
-some? G A u v = ltb u v && backward G A (A .accepting) v u 0
+some? G A u v = backward G A (A .accepting) v u 0
 
 -- ALL, for a complete and deterministic automaton: SOME for its accepting states, and not SOME for its others.
 unfoldable pub all? : Dag → Automaton → ℕ → ℕ → Bool
@@ -56,7 +56,7 @@ satisfies? G b u v = satisfiesBy? (b .modality) G (b .automaton) u v
 -- The first k beads hold at v.
 unfoldable pub holds? : Dag → Pattern → ℕ → ℕ → Bool
 holds? G P zero v = eqb v 0
-holds? G P (suc k) v = someBelow v (λ u. holds? G P k u && satisfies? G (P .bead k) u v)
+holds? G P (suc k) v = someBelow (suc v) (λ u. holds? G P k u && satisfies? G (P .bead k) u v)
 
 abbrev pub serves? : Dag → Pattern → ℕ → ℕ → ℕ → Bool
 serves? G P k v u = holds? G P k u && satisfies? G (P .bead k) u v
@@ -68,7 +68,7 @@ seek f (suc d) i = elim (f i) [ true ↦ i | false ↦ seek f d (suc i) ]
 
 -- The smallest vertex that serves as the pivot before v.
 unfoldable pub before : Dag → Pattern → ℕ → ℕ → ℕ
-before G P k v = seek (serves? G P k v) v 0
+before G P k v = seek (serves? G P k v) (suc v) 0
 
 -- The pivots p 0, .., p k = v that are picked backwards from v.
 unfoldable pub pivots : Dag → Pattern → ℕ → ℕ → List ℕ

@@ -29,15 +29,14 @@ pub data DagPath (G : Dag) : ℕ → List ℕ → ℕ → Type 0 where
   here : {u : ℕ} → DagPath G u [] u
   edge : {u x v : ℕ} {xs : List ℕ} → u ∈ G .preds x → DagPath G x xs v → DagPath G u (x ∷ xs) v
 
--- A path with at least one edge (document 01: a route). None leads from a vertex to itself.
+-- A path of any length (document 01: a route). A vertex has one route to itself, with no edge (document 02, ask 3).
 pub record Route (G : Dag) (u v : ℕ) : Type 0 where
-  pub first : ℕ
-  pub rest : List ℕ
-  pub path : DagPath G u (first ∷ rest) v
+  pub after : List ℕ
+  pub path : DagPath G u after v
 
 -- The vertices of a route after its first: those whose labels are read.
 abbrev pub entered : {G : Dag} {u v : ℕ} → Route G u v → List ℕ
-entered r = r .first ∷ r .rest
+entered r = r .after
 
 -- A reading of vertices (RR-2838: a labelling of a path): exactly one label from each that has labels, and from a vertex
 -- without labels nothing, the empty letter.

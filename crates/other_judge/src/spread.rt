@@ -24,10 +24,11 @@ fn mark_beads(pattern: &[u16], log: &[u16], u: u16, on: &mut [u16]) {
     }
 }
 
-// Which steps have a route from u.
+// Which steps have a route from u: u itself, by no link, and later ones.
 fn mark_routes(log: &[u16], u: u16, on: &mut [u16]) {
     let mut reached = [0u16; 128];
     put(&mut reached, u as usize, 1);
+    mark_if(on, u, u, 15, true);
     let n = places::step_count(log);
     let mut w = std::num::wrapping_add_u16(u, 1);
     while w < n {
@@ -38,10 +39,11 @@ fn mark_routes(log: &[u16], u: u16, on: &mut [u16]) {
     }
 }
 
-// The bead on u and each later step. The states at u are 0 alone: no route leads from a step to itself, so they are not judged.
+// The bead on u and each step from u on. The states at u are 0 alone: the route with no link reads nothing.
 fn mark_bead(pattern: &[u16], log: &[u16], bead: u16, u: u16, on: &mut [u16]) {
     let mut states = [0u16; 128];
     put(&mut states, u as usize, 1);
+    mark_if(on, u, u, bead, holds(pattern, bead, true, 1));
     let n = places::step_count(log);
     let mut w = std::num::wrapping_add_u16(u, 1);
     while w < n {

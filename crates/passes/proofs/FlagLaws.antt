@@ -4,7 +4,7 @@ use mathlib.Core.Path.{_≡_, refl, sym, ap, ap₂, _∙_}
 use mathlib.Core.Bool.{Bool, true, false, cond, not, _&&_, _||_, and-assoc}
 use mathlib.Core.List.{List, [], _∷_}
 use native.Mathlib.Omega.{arith}
-use borrow.Author.Tests.{lt-ltb, eq-eqb, ne-eqb, ltb-true, ltb-false}
+use borrow.Author.Tests.{eq-eqb, ne-eqb, ltb-true, ltb-false}
 use lib.Dec.{eqb, ltb}
 use lib.ListN.{length, getD, set}
 use Rattle.lists.specs.Places.{at}
@@ -101,9 +101,20 @@ member-others n s r = go (ltb r n) refl
     go true e = sym (member-complement n s r (ltb-true r n e))
     go false e = sym (no-false (member r (complement n s)) (setOf-above n (λ i. not (member i s)) r (ltb-false r n e)))
 
-some-below : (G : Dag) (A : Automaton) (u v : ℕ) → u < v → some? G A u v ≡ backward G A (A .accepting) v u 0
+some-is : (G : Dag) (A : Automaton) (u v : ℕ) → some? G A u v ≡ backward G A (A .accepting) v u 0
 unfolding some?
-some-below G A u v h = simp (lt-ltb u v h)
+some-is G A u v = refl
+
+-- the steps up to the target are inside the arrays
+module _ (pattern log work : List ℕ) (j v : ℕ) (prefixes : List ℕ) (hand : AtHand pattern log j v prefixes work) where
+  pub counted-small : v + 1 ≤ 1024
+  counted-small = let m = hand .asked .target in let f = hand .asked .log-laid .few in omega arith
+
+  pub counted-inside : (l : List ℕ) → 1024 ≤ length l → v + 1 ≤ length l
+  counted-inside l h = let m = counted-small in omega arith
+
+  pub counted-prefixes : v + 1 ≤ length prefixes
+  counted-prefixes = counted-inside prefixes (hand .asked .prefixes-long)
 
 module _ (pattern log work : List ℕ) (j v : ℕ) (prefixes states flags : List ℕ) (hand : AtHand pattern log j v prefixes work)
     (accepting : PassedBy log work (at pattern (acceptingAt j)) v states) where
@@ -116,34 +127,34 @@ module _ (pattern log work : List ℕ) (j v : ℕ) (prefixes states flags : List
   abbrev A : Automaton
   A = automatonOf pattern j
 
-  some-at : (u : ℕ) → u < v → member 0 (getD states u 0) ≡ some? G A u v
-  some-at u h = accepting .passed pattern j (hand .table) .from u 0 (let m = high in omega arith) (omega arith) ∙ sym (some-below G A u v h)
+  some-at : (u : ℕ) → u ≤ v → member 0 (getD states u 0) ≡ some? G A u v
+  some-at u h = accepting .passed pattern j (hand .table) .from u 0 (let m = high in omega arith) (omega arith) ∙ sym (some-is G A u v)
 
-  some-serves : (at pattern (ruleAt j) ≡ 2 → ⊥) → (u : ℕ) → u < v → servesSome states prefixes j u ≡ serves? (logOf log) (patternOf pattern) j v u
+  some-serves : (at pattern (ruleAt j) ≡ 2 → ⊥) → (u : ℕ) → u ≤ v → servesSome states prefixes j u ≡ serves? (logOf log) (patternOf pattern) j v u
   unfolding patternOf
   some-serves rule u h = rw (ne-eqb (at pattern (ruleAt j)) 2 rule) (ap₂ _&&_ (hand .asked .earlier .holds u (let m = high in omega arith)) (some-at u h))
 
-  pub some-flags : (at pattern (ruleAt j) ≡ 2 → ⊥) → FlagsBy (servesSome states prefixes j) v flags
+  pub some-flags : (at pattern (ruleAt j) ≡ 2 → ⊥) → FlagsBy (servesSome states prefixes j) (v + 1) flags
       → Flagged (logOf log) (patternOf pattern) j v flags
-  some-flags rule d = record { flag = λ u h. d .numbers .number u h ∙ ap (λ (b : Bool). cond b 1 0) (some-serves rule u h) }
+  some-flags rule d = record { flag = λ u h. d .numbers .number u (omega arith) ∙ ap (λ (b : Bool). cond b 1 0) (some-serves rule u h) }
 
   module _ (F : ℕ) (others : List ℕ) (rest : F ≡ complement (at pattern (statesAt j)) (at pattern (acceptingAt j))) (other : PassedBy log work F v others) where
-    other-at : (u : ℕ) → u < v → member 0 (getD others u 0) ≡ some? G (exchange A) u v
+    other-at : (u : ℕ) → u ≤ v → member 0 (getD others u 0) ≡ some? G (exchange A) u v
     other-at u h =
         other .passed pattern j (hand .table) .from u 0 (let m = high in omega arith) (omega arith)
         ∙ backward-ext G A (λ q a r n. next-within pattern j q a r n) (λ r. member r F) (exchange A .accepting)
         (λ r l. ap (member r) rest ∙ sym (member-others (at pattern (statesAt j)) (at pattern (acceptingAt j)) r)) v u 0 (omega arith)
-        ∙ sym (some-below G (exchange A) u v h ∙ exchange-backward G A (exchange A .accepting) v u 0)
+        ∙ sym (some-is G (exchange A) u v ∙ exchange-backward G A (exchange A .accepting) v u 0)
 
-    all-serves : at pattern (ruleAt j) ≡ 2 → (u : ℕ) → u < v → servesAll states others prefixes j u ≡ serves? (logOf log) (patternOf pattern) j v u
+    all-serves : at pattern (ruleAt j) ≡ 2 → (u : ℕ) → u ≤ v → servesAll states others prefixes j u ≡ serves? (logOf log) (patternOf pattern) j v u
     unfolding patternOf all?
     all-serves rule u h =
         rw (eq-eqb (at pattern (ruleAt j)) 2 rule)
         (ap₂ _&&_ (ap₂ _&&_ (hand .asked .earlier .holds u (let m = high in omega arith)) (some-at u h)) (ap not (other-at u h))
         ∙ and-assoc (holds? G (patternOf pattern) j u) (some? G A u v) (not (some? G (exchange A) u v)))
 
-    pub all-flags : at pattern (ruleAt j) ≡ 2 → FlagsBy (servesAll states others prefixes j) v flags
+    pub all-flags : at pattern (ruleAt j) ≡ 2 → FlagsBy (servesAll states others prefixes j) (v + 1) flags
         → Flagged (logOf log) (patternOf pattern) j v flags
-    all-flags rule d = record { flag = λ u h. d .numbers .number u h ∙ ap (λ (b : Bool). cond b 1 0) (all-serves rule u h) }
+    all-flags rule d = record { flag = λ u h. d .numbers .number u (omega arith) ∙ ap (λ (b : Bool). cond b 1 0) (all-serves rule u h) }
 
-pub ruleset make-kit = (some-flags, all-flags)
+pub ruleset make-kit = (some-flags, all-flags, counted-small, counted-inside, counted-prefixes)

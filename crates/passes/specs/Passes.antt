@@ -17,9 +17,9 @@ use Rattle.pattern_buffer.specs.Meaning.{automatonOf, patternOf}
 use Rattle.step_table.specs.Table.{tableLength, Tabled, Filled, Laid}
 use Rattle.passes.specs.declared.Ready.{Ready}
 
--- Which vertices below v serve as the pivot before v for the bead k + 1: 1 where one does, else 0.
+-- Which vertices up to v serve as the pivot before v for the bead k + 1: 1 where one does, else 0.
 pub record Flagged (G : Dag) (P : Pattern) (k v : ℕ) (flags : List ℕ) : Type 0 where
-  pub flag : (u : ℕ) → u < v → getD flags u 0 ≡ cond (serves? G P k v u) 1 0
+  pub flag : (u : ℕ) → u ≤ v → getD flags u 0 ≡ cond (serves? G P k v u) 1 0
 
 -- The pivot of the first k beads in the walk back from v over a pattern of k + d beads.
 unfoldable pub pivotBack : Dag → Pattern → ℕ → ℕ → ℕ → ℕ

@@ -72,40 +72,40 @@ fn flag(b: bool) -> u16
     0
 }
 
-// The flags of a SOME bead.
-fn flag_some(states: &[u16], prefixes: &[u16], bead: usize, target: usize, flags: &mut [u16])
+// The flags of a SOME bead, for so many steps.
+fn flag_some(states: &[u16], prefixes: &[u16], bead: usize, count: usize, flags: &mut [u16])
     requires { ⌜ bead < mostBeads ⌝ }
-    requires { ⌜ target ≤ length (now states) ⌝ }
-    requires { ⌜ target ≤ length (now prefixes) ⌝ }
-    requires { ⌜ target ≤ length (now flags) ⌝ }
-    ensures { λ _. ⌜ FlagsBy (servesSome (now (states .entry)) (now (prefixes .entry)) bead) target (now (flags .exit)) ⌝ }
+    requires { ⌜ count ≤ length (now states) ⌝ }
+    requires { ⌜ count ≤ length (now prefixes) ⌝ }
+    requires { ⌜ count ≤ length (now flags) ⌝ }
+    ensures { λ _. ⌜ FlagsBy (servesSome (now (states .entry)) (now (prefixes .entry)) bead) count (now (flags .exit)) ⌝ }
 {
     let mut u = 0;
-    while u < target {
+    while u < count {
         let serves = serves_some(states, prefixes, bead, u);
         flags[u] = flag(serves);
         u += 1;
     }
 }
 
-// The flags of an ALL bead.
+// The flags of an ALL bead, for so many steps.
 fn flag_all(
     states: &[u16],
     others: &[u16],
     prefixes: &[u16],
     bead: usize,
-    target: usize,
+    count: usize,
     flags: &mut [u16],
 )
     requires { ⌜ bead < mostBeads ⌝ }
-    requires { ⌜ target ≤ length (now states) ⌝ }
-    requires { ⌜ target ≤ length (now others) ⌝ }
-    requires { ⌜ target ≤ length (now prefixes) ⌝ }
-    requires { ⌜ target ≤ length (now flags) ⌝ }
-    ensures { λ _. ⌜ FlagsBy (servesAll (now (states .entry)) (now (others .entry)) (now (prefixes .entry)) bead) target (now (flags .exit)) ⌝ }
+    requires { ⌜ count ≤ length (now states) ⌝ }
+    requires { ⌜ count ≤ length (now others) ⌝ }
+    requires { ⌜ count ≤ length (now prefixes) ⌝ }
+    requires { ⌜ count ≤ length (now flags) ⌝ }
+    ensures { λ _. ⌜ FlagsBy (servesAll (now (states .entry)) (now (others .entry)) (now (prefixes .entry)) bead) count (now (flags .exit)) ⌝ }
 {
     let mut u = 0;
-    while u < target {
+    while u < count {
         let serves = serves_all(states, others, prefixes, bead, u);
         flags[u] = flag(serves);
         u += 1;
@@ -129,7 +129,7 @@ fn make_some(
 {
     let mut states = [0u16; 1024];
     backward::backward_pass(log, work, target, pattern[18 + bead], &mut states);
-    flag_some(&states, prefixes, bead, target, flags);
+    flag_some(&states, prefixes, bead, target + 1, flags);
 }
 
 // The flags of an ALL bead: a pass for the accepting states, and a second one for the others.
@@ -173,7 +173,7 @@ fn make_denied(
     let mut others = [0u16; 1024];
     let rest = other_states(pattern, bead);
     backward::backward_pass(log, work, target, rest, &mut others);
-    flag_all(states, &others, prefixes, bead, target, flags);
+    flag_all(states, &others, prefixes, bead, target + 1, flags);
 }
 
 // The states of a bead that do not accept.

@@ -192,9 +192,9 @@ module _ (pattern log : List ℕ) (n k u : ℕ) (t : TurnOf pattern log n k u) w
   reached-satisfies work states old new d p a =
       added-ext (reachesAt pattern k states) (satisfiesFrom (logOf log) (patternOf pattern) k u) k u n old new (λ v up r. same v up r) a
     where
-      same : (v : ℕ) → u < v → v < n → reachesAt pattern k states v ≡ satisfiesFrom (logOf log) (patternOf pattern) k u v
+      same : (v : ℕ) → u ≤ v → v < n → reachesAt pattern k states v ≡ satisfiesFrom (logOf log) (patternOf pattern) k u v
       same v up r =
-          reaches-satisfies pattern log work (log-well-formed (labelsIn pattern) log (t .tried .is-log)) k u states d p v up (let e = t .steps-are in omega arith)
+          reaches-satisfies pattern log work (log-well-formed (labelsIn pattern) log (t .tried .is-log)) k u states d p v (let e = t .steps-are in omega arith)
 
   module _ (b : Bool) (prefixes : List ℕ) (earlier : Earlier (logOf log) (patternOf pattern) k (stepsIn log) prefixes) (e : b ≡ prefixAt prefixes k u) where
     held : b ≡ holds? (logOf log) (patternOf pattern) k u

@@ -7,9 +7,9 @@ use mathlib.Core.List.{List}
 use native.Mathlib.Nat.{div-add-mod', lt-of-lt-of-le, mul-le-mul-right}
 use native.Mathlib.Decide.{ℕ-discrete, decLt}
 use native.Mathlib.Omega.{arith}
-use borrow.Author.Tests.{lt-ltb, le-ltb, eq-eqb, ne-eqb}
+use borrow.Author.Tests.{lt-ltb, le-leb, lt-leb, eq-eqb, ne-eqb}
 use lib.Arith.{digits-div, digits-mod, digits-lt}
-use lib.Dec.{ltb, eqb}
+use lib.Dec.{ltb, leb, eqb}
 use lib.ListN.{getD}
 use lib.Pow.{pow-mono}
 use Rattle.sets.specs.Sets.{member, someBelow}
@@ -33,48 +33,48 @@ module _ (G : Dag) (P : Pattern) (n : ℕ) (marks : List ℕ) where
   marked-none z = record {
     few = λ v. let e = z v in omega arith;
     marks = λ k v h l.
-        let e : min (0 - k * n) v ≡ 0 = omega arith in
+        let e : min (0 - k * n) (suc v) ≡ 0 = omega arith in
         ap (member k) (z v) ∙ member-empty k ∙ sym (ap (λ (m : ℕ). someBelow m (serves? G P k v)) e ∙ someBelow-none (serves? G P k v));
   }
 
   -- a bead whose turns are all made
-  pub marked-whole : (i : ℕ) → MarkedUpTo G P n i marks → (k v : ℕ) → k < 16 → v < n → k * n + v ≤ i → member k (getD marks v 0) ≡ holds? G P (suc k) v
+  pub marked-whole : (i : ℕ) → MarkedUpTo G P n i marks → (k v : ℕ) → k < 16 → v < n → k * n + v < i → member k (getD marks v 0) ≡ holds? G P (suc k) v
   unfolding holds?
   marked-whole i m k v h l g =
-      let e : min (i - k * n) v ≡ v = omega arith in
+      let e : min (i - k * n) (suc v) ≡ suc v = omega arith in
       m .marks k v h l ∙ ap (λ (x : ℕ). someBelow x (serves? G P k v)) e
 
   -- and one that has had none
   pub marked-not-yet : (i : ℕ) → MarkedUpTo G P n i marks → (k v : ℕ) → k < 16 → v < n → i ≤ k * n → member k (getD marks v 0) ≡ false
   marked-not-yet i m k v h l g =
-      let e : min (i - k * n) v ≡ 0 = omega arith in
+      let e : min (i - k * n) (suc v) ≡ 0 = omega arith in
       m .marks k v h l ∙ ap (λ (x : ℕ). someBelow x (serves? G P k v)) e ∙ someBelow-none (serves? G P k v)
 
 -- The turn of the bead k and the starting vertex u adds the bead where u serves.
 module _ (G : Dag) (P : Pattern) (n i : ℕ) (marks new : List ℕ) (m : MarkedUpTo G P n i marks) (k u : ℕ) (turn : i ≡ k * n + u) (start : u < n)
     (a : Added (servesFrom G P k u) k u n marks new) where
-  added-at : (v : ℕ) → v < n → (b : Bool) → (b || (true && (ltb u v && (ltb v n && servesFrom G P k u v)))) ≡ (b || (ltb u v && serves? G P k v u))
+  added-at : (v : ℕ) → v < n → (b : Bool) → (b || (true && (leb u v && (ltb v n && servesFrom G P k u v)))) ≡ (b || (leb u v && serves? G P k v u))
   unfolding servesFrom
   added-at v l b = rw (lt-ltb v n l)
 
-  own : (v : ℕ) → v < n → Dec (u < v) → (someBelow (min (i - k * n) v) (serves? G P k v) || (ltb u v && serves? G P k v u)) ≡ someBelow (min (i + 1 - k * n) v) (serves? G P k v)
+  own : (v : ℕ) → v < n → Dec (v < u) → (someBelow (min (i - k * n) (suc v)) (serves? G P k v) || (leb u v && serves? G P k v u)) ≡ someBelow (min (i + 1 - k * n) (suc v)) (serves? G P k v)
   own v l (yes h) =
-      let e : min (i - k * n) v ≡ u = omega arith in
-      let f : min (i + 1 - k * n) v ≡ u + 1 = omega arith in
-      rw (e, f, lt-ltb u v h) (sym (someBelow-more u (serves? G P k v)))
+      let e : min (i - k * n) (suc v) ≡ suc v = omega arith in
+      let f : min (i + 1 - k * n) (suc v) ≡ suc v = omega arith in
+      rw (e, f, lt-leb u v h) (or-false (someBelow (suc v) (serves? G P k v)))
   own v l (no h) =
-      let e : min (i - k * n) v ≡ v = omega arith in
-      let f : min (i + 1 - k * n) v ≡ v = omega arith in
-      rw (e, f, le-ltb u v (omega arith)) (or-false (someBelow v (serves? G P k v)))
+      let e : min (i - k * n) (suc v) ≡ u = omega arith in
+      let f : min (i + 1 - k * n) (suc v) ≡ u + 1 = omega arith in
+      rw (e, f, le-leb u v (omega arith)) (sym (someBelow-more u (serves? G P k v)))
 
   -- other beads have had all their turns, or none
-  lower : (j v : ℕ) → v < n → j < k → min (i - j * n) v ≡ min (i + 1 - j * n) v
+  lower : (j v : ℕ) → v < n → j < k → min (i - j * n) (suc v) ≡ min (i + 1 - j * n) (suc v)
   lower j v l h = let q : j * n + v < k * n = digits-lt h l in omega arith
 
-  higher : (j v : ℕ) → k < j → min (i - j * n) v ≡ min (i + 1 - j * n) v
+  higher : (j v : ℕ) → k < j → min (i - j * n) (suc v) ≡ min (i + 1 - j * n) (suc v)
   higher j v h = let q : k * n + u < j * n = digits-lt h start in omega arith
 
-  other : (j v : ℕ) → v < n → (j ≡ k → ⊥) → Dec (j < k) → min (i - j * n) v ≡ min (i + 1 - j * n) v
+  other : (j v : ℕ) → v < n → (j ≡ k → ⊥) → Dec (j < k) → min (i - j * n) (suc v) ≡ min (i + 1 - j * n) (suc v)
   other j v l e (yes h) = lower j v l h
   other j v l e (no h) = higher j v (omega arith)
 
@@ -82,10 +82,10 @@ module _ (G : Dag) (P : Pattern) (n i : ℕ) (marks new : List ℕ) (m : MarkedU
   marked-turn = record { few = a .few (m .few); marks = λ j v h l. a .sets j v h ∙ go j v h l (ℕ-discrete j k) }
     where
       go : (j v : ℕ) → j < 16 → v < n → Dec (j ≡ k)
-          → (member j (getD marks v 0) || (eqb j k && (ltb u v && (ltb v n && servesFrom G P k u v)))) ≡ someBelow (min (i + 1 - j * n) v) (serves? G P j v)
+          → (member j (getD marks v 0) || (eqb j k && (leb u v && (ltb v n && servesFrom G P k u v)))) ≡ someBelow (min (i + 1 - j * n) (suc v)) (serves? G P j v)
       go j v h l (yes e) =
           rw (eq-eqb j k e)
-          (added-at v l (member j (getD marks v 0)) ∙ ap (λ (b : Bool). b || (ltb u v && serves? G P k v u)) (m .marks j v h l) ∙ rw e (own v l (decLt u v)))
+          (added-at v l (member j (getD marks v 0)) ∙ ap (λ (b : Bool). b || (leb u v && serves? G P k v u)) (m .marks j v h l) ∙ rw e (own v l (decLt v u)))
       go j v h l (no e) =
           rw (ne-eqb j k e)
           (or-false (member j (getD marks v 0)) ∙ m .marks j v h l ∙ ap (λ (x : ℕ). someBelow x (serves? G P j v)) (other j v l e (decLt j k)))
@@ -99,7 +99,7 @@ marked-all G P n i marks few e m v l =
     same : (k : ℕ) → k < 16 → Dec (k < P .count) → member k (getD marks v 0) ≡ member k (prefixes G P v)
     same k h (yes c) =
         let q : k * n + v < i = rw e (digits-lt c l) in
-        marked-whole G P n marks i m k v h l (omega arith) ∙ sym (prefixes-member G P v k c)
+        marked-whole G P n marks i m k v h l q ∙ sym (prefixes-member G P v k c)
     same k h (no c) =
         let q : i ≤ k * n = rw e (mul-le-mul-right n (not-less c)) in
         marked-not-yet G P n marks i m k v h l q

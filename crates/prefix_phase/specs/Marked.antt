@@ -1,5 +1,5 @@
 -- What the judge's first phase has done after a while: bead by bead and, for each bead, starting vertex by starting vertex.
-use Prim.Native.Nat.{ℕ, _+_, _-_, _*_, _≤_, _<_, min}
+use Prim.Native.Nat.{ℕ, suc, _+_, _-_, _*_, _≤_, _<_, min}
 use mathlib.Core.Path.{_≡_}
 use mathlib.Core.Bool.{Bool}
 use mathlib.Core.List.{List}
@@ -49,10 +49,10 @@ pub record Unmarked (prefixes : List ℕ) : Type 0 where
   pub none : (v : ℕ) → _≡_ {A = ℕ} (getD prefixes v 0) 0
 
 -- The prefixes, upwards: after i turns, of which k * n + u is that of the bead k + 1 and the starting vertex u, a vertex v has the bead
--- in its set if some u below v, whose turn is made, serves as the pivot before v.
+-- in its set if some u up to v, whose turn is made, serves as the pivot before v.
 pub record MarkedUpTo (G : Dag) (P : Pattern) (n i : ℕ) (prefixes : List ℕ) : Type 0 where
   pub few : (v : ℕ) → getD prefixes v 0 < 65536
-  pub marks : (k v : ℕ) → k < 16 → v < n → member k (getD prefixes v 0) ≡ someBelow (min (i - k * n) v) (serves? G P k v)
+  pub marks : (k v : ℕ) → k < 16 → v < n → member k (getD prefixes v 0) ≡ someBelow (min (i - k * n) (suc v)) (serves? G P k v)
 
 -- After all turns: the set of prefixes of each vertex.
 pub record Marks (G : Dag) (P : Pattern) (n : ℕ) (sets : List ℕ) : Type 0 where

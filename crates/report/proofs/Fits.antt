@@ -1,7 +1,7 @@
 -- How long the program's output can be: the header, and a line a step, each with the step, the set of prefixes and at most nine pivots.
 -- Assumes nothing.
 use Prim.Native.Nat.{ℕ, zero, suc, _+_, _-_, _*_, _^_, _≤_, _<_}
-use mathlib.Core.Path.{_≡_, sym, subst}
+use mathlib.Core.Path.{_≡_, refl, sym, subst}
 use mathlib.Core.Bool.{Bool, true, false, cond}
 use mathlib.Core.List.{List, [], _∷_, _++_, map}
 use native.Mathlib.Omega.{arith}
@@ -17,7 +17,8 @@ use Rattle.numbers.proofs.SpelledNumbers.{length-spell, Under}
 use Rattle.numbers.proofs.ListedLaws.{length-listed}
 use Rattle.necklace.specs.Dag.{Dag}
 use Rattle.necklace.specs.Necklace.{Pattern}
-use Rattle.necklace.specs.Compute.{row, prefixes, pivots, before, seek, serves?, holds?}
+use Rattle.necklace.specs.Compute.{row, prefixes, pivots, before, holds?}
+use Rattle.necklace.proofs.Prefixes.{before-holds, before-le}
 use Rattle.necklace.proofs.RowMeaning.{prefixes-below, row-first, row-length}
 use Rattle.log_line.specs.Limits.{bufferLength as logLength}
 use Rattle.log_buffer.specs.Meaning.{logOf, stepsIn}
@@ -50,30 +51,21 @@ small-zeros (suc n) = (omega arith, small-zeros n)
 
 -- ---- the pivots of a step are no larger than the step
 
-seek-most : (f : ℕ → Bool) (d i : ℕ) → seek f d i ≤ i + d
-unfolding seek
-seek-most f zero i = omega arith
-seek-most f (suc d) i = go (f i) (seek-most f d (suc i))
-  where
-    go : (b : Bool) → seek f d (suc i) ≤ suc i + d → elim b [ true ↦ i | false ↦ seek f d (suc i) ] ≤ i + suc d
-    go true h = omega arith
-    go false h = omega arith
-
-small-pivots : (G : Dag) (P : Pattern) (k v : ℕ) → v < 10 ^ 4 → Small (pivots G P k v)
-unfolding pivots before
-small-pivots G P zero v h = (h, tt)
-small-pivots G P (suc k) v h =
-    let s = seek-most (serves? G P k v) v 0 in
-    small-append (pivots G P k (before G P k v)) (v ∷ []) (small-pivots G P k (before G P k v) (omega arith)) (h, tt)
+small-pivots : (G : Dag) (P : Pattern) (k v : ℕ) → v < 10 ^ 4 → T (holds? G P k v) → Small (pivots G P k v)
+unfolding pivots
+small-pivots G P zero v h t = (h, tt)
+small-pivots G P (suc k) v h t =
+    let l = before-le G P k v t in
+    small-append (pivots G P k (before G P k v)) (v ∷ []) (small-pivots G P k (before G P k v) (omega arith) (before-holds G P k v t)) (h, tt)
 
 small-row : (G : Dag) (P : Pattern) (v : ℕ) → v < 10 ^ 4 → Small (drop 1 (row G P v))
 unfolding row
 small-row G P v h = small-take 9 (cond (holds? G P (P .count) v) (pivots G P (P .count) v) [] ++ replicate 9 0)
-    (small-append (cond (holds? G P (P .count) v) (pivots G P (P .count) v) []) (replicate 9 0) (go (holds? G P (P .count) v)) (small-zeros 9))
+    (small-append (cond (holds? G P (P .count) v) (pivots G P (P .count) v) []) (replicate 9 0) (go (holds? G P (P .count) v) refl) (small-zeros 9))
   where
-    go : (b : Bool) → Small (cond b (pivots G P (P .count) v) [])
-    go true = small-pivots G P (P .count) v h
-    go false = tt
+    go : (b : Bool) → holds? G P (P .count) v ≡ b → Small (cond b (pivots G P (P .count) v) [])
+    go true e = small-pivots G P (P .count) v h (rw e tt)
+    go false e = tt
 
 -- ---- a line
 

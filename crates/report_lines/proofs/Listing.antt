@@ -1,4 +1,5 @@
--- The report's lines for document 01's listing, under its pattern of two beads, and for a refusal.
+-- The report's lines for document 01's listing (row 1 as ask 3 has it), under its pattern of two beads, for a step that has only the first
+-- bead, for a step 0 that holds, and for a refusal.
 use Prim.Native.Nat.{ℕ}
 use mathlib.Core.Path.{_≡_, refl}
 use mathlib.Core.List.{List, [], _∷_, _++_, map}
@@ -8,7 +9,7 @@ use Rattle.text.specs.Split.{joined}
 use Rattle.numbers.specs.Numbers.{spellIn}
 use Rattle.report_lines.specs.Lines.{headerText, rowText, refusalText}
 
--- A line that the definitions give, and the bytes that document 01 shows.
+-- A line that the definitions give, and the bytes that the documents show.
 pub record Case : Type 0 where
   pub line : List ℕ
   pub bytes : List ℕ
@@ -26,8 +27,8 @@ cases =
     })
     -- 0 0 -
     ∷ (record { line = stepLine 0 (0 ∷ []); bytes = 48 ∷ 32 ∷ 48 ∷ 32 ∷ 45 ∷ 10 ∷ [] })
-    -- 1 1 -
-    ∷ (record { line = stepLine 1 (1 ∷ []); bytes = 49 ∷ 32 ∷ 49 ∷ 32 ∷ 45 ∷ 10 ∷ [] })
+    -- 1 3 0,1,1
+    ∷ (record { line = stepLine 1 (3 ∷ 0 ∷ 1 ∷ 1 ∷ []); bytes = 49 ∷ 32 ∷ 51 ∷ 32 ∷ 48 ∷ 44 ∷ 49 ∷ 44 ∷ 49 ∷ 10 ∷ [] })
     -- 2 0 -
     ∷ (record { line = stepLine 2 (0 ∷ []); bytes = 50 ∷ 32 ∷ 48 ∷ 32 ∷ 45 ∷ 10 ∷ [] })
     -- 3 2 0,1,3
@@ -38,6 +39,10 @@ cases =
     ∷ (record { line = stepLine 5 (2 ∷ 0 ∷ 1 ∷ 5 ∷ []); bytes = 53 ∷ 32 ∷ 50 ∷ 32 ∷ 48 ∷ 44 ∷ 49 ∷ 44 ∷ 53 ∷ 10 ∷ [] })
     -- 6 3 0,1,6
     ∷ (record { line = stepLine 6 (3 ∷ 0 ∷ 1 ∷ 6 ∷ []); bytes = 54 ∷ 32 ∷ 51 ∷ 32 ∷ 48 ∷ 44 ∷ 49 ∷ 44 ∷ 54 ∷ 10 ∷ [] })
+    -- 1 1 -
+    ∷ (record { line = stepLine 1 (1 ∷ []); bytes = 49 ∷ 32 ∷ 49 ∷ 32 ∷ 45 ∷ 10 ∷ [] })
+    -- 0 3 0,0,0
+    ∷ (record { line = stepLine 0 (3 ∷ []); bytes = 48 ∷ 32 ∷ 51 ∷ 32 ∷ 48 ∷ 44 ∷ 48 ∷ 44 ∷ 48 ∷ 10 ∷ [] })
     -- refused 13 line 4 byte 5
     ∷ (record { line = refusalText (refusedIn 13 4 5); bytes = 114 ∷ 101 ∷ 102 ∷ 117 ∷ 115 ∷ 101 ∷ 100 ∷ 32 ∷ 49 ∷ 51 ∷ 32 ∷ 108 ∷ 105 ∷ 110 ∷ 101 ∷ 32 ∷ 52 ∷ 32 ∷ 98 ∷ 121 ∷ 116 ∷ 101 ∷ 32 ∷ 53 ∷ 10 ∷ [] })
     -- refused 10 line 0 byte 0

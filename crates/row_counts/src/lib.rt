@@ -13,7 +13,11 @@ const WHOLE: usize = 23;
 
 const FRONT: usize = 32;
 
-const FRONT_CHOSEN: usize = 37;
+const TWICE: usize = 33;
+
+const START: usize = 34;
+
+const FRONT_CHOSEN: usize = 39;
 
 // The rows by the other judge, and at how many steps the whole pattern holds.
 pub fn judge_apart(
@@ -45,7 +49,7 @@ fn judge_rows(
     let mut v = 0;
     while v < n {
         other_judge::fill_row(beads, on, begun, v, rows, row_place(v));
-        count_bits(get(rows, row_place(v) as usize), counts);
+        count_bits(v, get(rows, row_place(v) as usize), counts);
         whole = std::num::wrapping_add_u16(
             whole,
             count_whole(beads, on, begun, v, result, rows, counts),
@@ -55,8 +59,9 @@ fn judge_rows(
     whole
 }
 
-// Which prefixes hold.
-fn count_bits(prefixes: u16, counts: &mut [u64]) {
+// Which prefixes hold, and whether one does at step 0.
+fn count_bits(v: u16, prefixes: u16, counts: &mut [u64]) {
+    add_if(counts, START, (v == 0) & (prefixes != 0));
     let mut k = 0;
     while k < 8 {
         add_if(counts, PREFIXES + 1 + k as usize, has(prefixes, k));
@@ -76,10 +81,24 @@ fn count_whole(
 ) -> u16 {
     if has(get(begun, v as usize), beads) {
         add(counts, WHOLE + beads as usize, 1);
+        add_if(counts, TWICE, stands_twice(beads, rows, row_place(v)));
         count_front(beads, on, begun, v, result, rows, counts);
         return 1;
     }
     0
+}
+
+// Does a pivot of the row stand twice? Pivots do not fall, so it then stands beside itself.
+fn stands_twice(beads: u16, rows: &[u16], at: u16) -> bool {
+    let mut j = 0;
+    while j < beads {
+        let i = at as usize + 1 + j as usize;
+        if get(rows, i) == get(rows, i + 1) {
+            return true;
+        }
+        j += 1;
+    }
+    false
 }
 
 // Would a search from the front find other pivots, and are those in the judge's row?

@@ -1,18 +1,17 @@
 -- The pivots that are picked, as the walk back over the beads finds them one by one.
 -- Assumes nothing.
-use Prim.Native.Nat.{ℕ, zero, suc, _+_, _-_, _*_, _≤_, _<_}
-use mathlib.Core.Path.{_≡_, refl, sym, ap, ap₂, _∙_, subst}
-use mathlib.Core.Bool.{Bool, true, false}
+use Prim.Native.Nat.{ℕ, zero, suc, _+_, _≤_}
+use mathlib.Core.Path.{_≡_, refl, sym, ap, _∙_, subst}
 use mathlib.Core.List.{List, [], _∷_, _++_}
-use native.Mathlib.Nat.{add-zero, add-suc}
 use native.Mathlib.Omega.{arith}
 use lib.Dec.{T}
-use lib.ListN.{length, getD, List·getD-append}
+use lib.ListN.{getD, List·getD-append}
 use lib.Seq.{getD-at}
 use Rattle.necklace.specs.Dag.{Dag}
 use Rattle.necklace.specs.Necklace.{Pattern}
-use Rattle.necklace.specs.Compute.{seek, before, pivots, serves?}
+use Rattle.necklace.specs.Compute.{before, pivots, holds?}
 use Rattle.necklace.proofs.RowMeaning.{pivots-length}
+use Rattle.necklace.proofs.Prefixes.{before-holds, before-le}
 use Rattle.passes.specs.Passes.{pivotBack}
 
 module _ (G : Dag) (P : Pattern) where
@@ -58,24 +57,16 @@ module _ (G : Dag) (P : Pattern) where
       ∙ List·getD-append (pivots G P (k + d) (before G P (k + d) v)) (v ∷ []) 0 k (omega arith)
       ∙ pivot-is k d (before G P (k + d) v) ∙ back-shift k d v ∙ sym (back-more k d v)
 
-  -- Going back never goes up.
-  seek-le : (f : ℕ → Bool) (d i : ℕ) → seek f d i ≤ i + d
-  unfolding seek
-  seek-le f zero i = omega arith
-  seek-le f (suc d) i = go (f i) refl (seek-le f d (suc i))
-    where
-      go : (b : Bool) → f i ≡ b → seek f d (suc i) ≤ suc i + d → seek f (suc d) i ≤ i + suc d
-      go true e h = rw (e, seek) (omega arith)
-      go false e h = rw (e, seek) (omega arith)
-
-  before-le : (k v : ℕ) → before G P k v ≤ v
-  unfolding before
-  before-le k v = let h = seek-le (serves? G P k v) v 0 in omega arith
-
-  pub back-le : (k d v : ℕ) → pivotBack G P k d v ≤ v
-  back-le k zero v = let e = back-none k v in omega arith
-  back-le k (suc d) v =
+  -- Where a prefix holds, the earlier one holds at each pivot picked, and going back never goes up.
+  pub back-holds : (k d v : ℕ) → T (holds? G P (k + d) v) → T (holds? G P k (pivotBack G P k d v)) × (pivotBack G P k d v ≤ v)
+  back-holds k zero v t =
+      let e = back-none k v in
+      let z : k + 0 ≡ k = omega arith in
+      (subst (λ (w : ℕ). T (holds? G P k w)) (sym e) (subst (λ (j : ℕ). T (holds? G P j v)) z t), omega arith)
+  back-holds k (suc d) v t =
       let e = back-more k d v in
-      let h = before-le k (pivotBack G P (suc k) d v) in
-      let g = back-le (suc k) d v in
-      omega arith
+      let z : k + suc d ≡ suc k + d = omega arith in
+      let g = back-holds (suc k) d v (subst (λ (j : ℕ). T (holds? G P j v)) z t) in
+      let l = before-le G P k (pivotBack G P (suc k) d v) (g .0) in
+      let m = g .1 in
+      (subst (λ (w : ℕ). T (holds? G P k w)) (sym e) (before-holds G P k (pivotBack G P (suc k) d v) (g .0)), omega arith)

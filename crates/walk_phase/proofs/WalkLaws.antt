@@ -197,14 +197,14 @@ module _ (pattern log : List ℕ) (n turns : ℕ) (sets : List ℕ) (w : Walk pa
 
 module _ (pattern log : List ℕ) (n turns : ℕ) (sets pivots work flags : List ℕ) (made : Ready) (i k v : ℕ) (whole : Bool) (p u : ℕ)
     (s : Searching pattern log n turns sets pivots work flags made i k v whole p u) where
-  pub found : u < p → getD flags u 0 ≡ 1 → WalkedDownTo (logOf log) (patternOf pattern) n i (set pivots (1024 * k + v) u)
+  pub found : u ≤ p → getD flags u 0 ≡ 1 → WalkedDownTo (logOf log) (patternOf pattern) n i (set pivots (1024 * k + v) u)
   found h e = s .put u (search-found (logOf log) (patternOf pattern) k p flags (s .flagged) u h e (s .rest))
 
-  pub go-on : u < p → (getD flags u 0 ≡ 1 → ⊥) → Searching pattern log n turns sets pivots work flags made i k v whole p (u + 1)
+  pub go-on : u ≤ p → (getD flags u 0 ≡ 1 → ⊥) → Searching pattern log n turns sets pivots work flags made i k v whole p (u + 1)
   go-on h e =
       record { flagged = s .flagged; put = s .put; rest = search-on (logOf log) (patternOf pattern) k p flags (s .flagged) u h e (s .rest) }
 
-  pub none-found : p ≤ u → WalkedDownTo (logOf log) (patternOf pattern) n i (set pivots (1024 * k + v) u)
+  pub none-found : p < u → WalkedDownTo (logOf log) (patternOf pattern) n i (set pivots (1024 * k + v) u)
   none-found h = s .put u (search-end (logOf log) (patternOf pattern) k p u h (s .rest))
 
 pub ruleset walk-kit = (walk-begins, walk-ends, walk-steps, walk-step, walk-bead, walk-next, walk-fits, set-asked, walk-no, target-small, walk-asked, ready-again)

@@ -21,40 +21,40 @@ use Rattle.necklace.proofs.Prefixes.{seek-stop, seek-on, seek-end}
 use Rattle.passes.specs.Passes.{Flagged, pivotBack}
 use Rattle.rows.specs.Rows.{pivotAt}
 use Rattle.walk_phase.specs.Walked.{WalkedDownTo}
-use Rattle.walk_phase.proofs.WalkBack.{back-none, back-more, back-le}
+use Rattle.walk_phase.proofs.WalkBack.{back-none, back-more, back-holds}
 use Rattle.prefix_phase.proofs.PrefixPhase.{one-turn}
 
 -- ---- the search over candidates
 
 -- The smallest candidate from u on.
 pub searchFrom : Dag → Pattern → ℕ → ℕ → ℕ → ℕ
-searchFrom G P k p u = seek (serves? G P k p) (p - u) u
+searchFrom G P k p u = seek (serves? G P k p) (suc p - u) u
 
 module _ (G : Dag) (P : Pattern) (k p : ℕ) where
   pub search-start : before G P k p ≡ searchFrom G P k p 0
   unfolding before searchFrom
-  search-start = let e : p ≡ p - 0 = omega arith in ap (λ (d : ℕ). seek (serves? G P k p) d 0) e
+  search-start = let e : suc p ≡ suc p - 0 = omega arith in ap (λ (d : ℕ). seek (serves? G P k p) d 0) e
 
   module _ (flags : List ℕ) (g : Flagged G P k p flags) (u : ℕ) where
-    pub search-found : u < p → getD flags u 0 ≡ 1 → before G P k p ≡ searchFrom G P k p u → u ≡ before G P k p
+    pub search-found : u ≤ p → getD flags u 0 ≡ 1 → before G P k p ≡ searchFrom G P k p u → u ≡ before G P k p
     unfolding searchFrom
-    search-found h e inv = sym (inv ∙ seek-stop (serves? G P k p) p u h (served (serves? G P k p u) (sym (g .flag u h) ∙ e)))
+    search-found h e inv = sym (inv ∙ seek-stop (serves? G P k p) (suc p) u (omega arith) (served (serves? G P k p u) (sym (g .flag u h) ∙ e)))
       where
         served : (b : Bool) → _≡_ {A = ℕ} (cond b 1 0) 1 → b ≡ true
         served true q = refl
         served false q = absurd (omega arith)
 
-    pub search-on : u < p → (getD flags u 0 ≡ 1 → ⊥) → before G P k p ≡ searchFrom G P k p u → before G P k p ≡ searchFrom G P k p (u + 1)
+    pub search-on : u ≤ p → (getD flags u 0 ≡ 1 → ⊥) → before G P k p ≡ searchFrom G P k p u → before G P k p ≡ searchFrom G P k p (u + 1)
     unfolding searchFrom
-    search-on h e inv = inv ∙ sym (seek-on (serves? G P k p) p u h (unserved (serves? G P k p u) (λ q. e (g .flag u h ∙ q))))
+    search-on h e inv = inv ∙ sym (seek-on (serves? G P k p) (suc p) u (omega arith) (unserved (serves? G P k p u) (λ q. e (g .flag u h ∙ q))))
       where
         unserved : (b : Bool) → (_≡_ {A = ℕ} (cond b 1 0) 1 → ⊥) → b ≡ false
         unserved true f = absurd (f refl)
         unserved false f = refl
 
-  pub search-end : (u : ℕ) → p ≤ u → before G P k p ≡ searchFrom G P k p u → u ≡ before G P k p
+  pub search-end : (u : ℕ) → p < u → before G P k p ≡ searchFrom G P k p u → u ≡ before G P k p
   unfolding searchFrom
-  search-end u h inv = sym (inv ∙ seek-end (serves? G P k p) p u h)
+  search-end u h inv = sym (inv ∙ seek-end (serves? G P k p) (suc p) u h)
 
 -- ---- the walk
 
@@ -112,7 +112,10 @@ module _ (G : Dag) (P : Pattern) (n : ℕ) (small : n ≤ 1024) (pivots : List �
         next-row a b = sym (ap (λ (x : ℕ). x * b) (add-one a) ∙ suc-mul a b)
 
     pub target-inside : i / n < P .count → T (holds? G P (P .count) (i % n)) → getD pivots (pivotAt (i / n + 1) (i % n)) 0 < n
-    target-inside c t = let e = target-is c t in let h = back-le G P (i / n + 1) (P .count - (i / n + 1)) (i % n) in let l = inside in omega arith
+    target-inside c t = let e = target-is c t in let h = back-holds G P (i / n + 1) (P .count - (i / n + 1)) (i % n) (subst (λ (j : ℕ). T (holds? G P j (i % n))) whole t) .1 in let l = inside in omega arith
+      where
+        whole : P .count ≡ i / n + 1 + (P .count - (i / n + 1))
+        whole = omega arith
 
     -- The smallest that serves is put down.
     pub walked-yes : (p u : ℕ) → i / n < P .count → T (holds? G P (P .count) (i % n)) → p ≡ getD pivots (pivotAt (i / n + 1) (i % n)) 0 → u ≡ before G P (i / n) p

@@ -41,7 +41,7 @@ fn pivot_after(beads: usize, step: usize, pivots: &[u16]) -> usize
 }
 
 // The turns of the walk, from the last to the first: beads downwards and, for each bead, steps downwards. Before a bead's pivot the
-// smallest candidate that serves is picked.
+// smallest candidate that serves is picked; the last candidate is that pivot itself.
 fn walk_turns(
     pattern: &[u16],
     log: &[u16],
@@ -70,7 +70,7 @@ fn walk_turns(
             let p = pivot_after(k + 1, v, pivots);
             made = serving(pattern, log, k, p, made, prefixes, work, flags);
             let mut u: usize = 0;
-            while u < p {
+            while u <= p {
                 if flags[u] == 1 {
                     break;
                 }

@@ -13,6 +13,9 @@ slice-aggregate-backward-pass c = search (needs, kit)
 backward-pass-requires : tie.Need-backward-pass-requires
 backward-pass-requires c κs = search (needs, kit)
 
+add-flag-all : tie.Need-add-flag-all
+add-flag-all c = search (needs, kit)
+
 slice-aggregate-flag-all : tie.Need-slice-aggregate-flag-all
 slice-aggregate-flag-all c = search (needs, kit)
 
@@ -33,6 +36,7 @@ make-denied-spec =
     slice-aggregate-backward-pass
     backward-pass-requires
     slice-aggregate-flag-all
+    add-flag-all
     flag-all-requires
     same-length
     returns)

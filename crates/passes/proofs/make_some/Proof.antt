@@ -19,6 +19,9 @@ slice-aggregate-backward-pass c = search (needs, kit)
 backward-pass-requires : tie.Need-backward-pass-requires
 backward-pass-requires c κs = search (needs, kit)
 
+add-flag-some : tie.Need-add-flag-some
+add-flag-some c = search (needs, kit)
+
 slice-aggregate-flag-some : tie.Need-slice-aggregate-flag-some
 slice-aggregate-flag-some c = search (needs, kit)
 
@@ -41,6 +44,7 @@ make-some-spec =
     slice-aggregate-backward-pass
     backward-pass-requires
     slice-aggregate-flag-some
+    add-flag-some
     flag-some-requires
     same-length
     returns)

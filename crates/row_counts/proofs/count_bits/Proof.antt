@@ -7,10 +7,13 @@ use Rattle.row_counts.proofs.count_bits.Statement.{statement}
 use Rattle.row_counts.proofs.count_bits.Tie as tie
 
 abbrev Inv-loop : tie.InvT-loop
-Inv-loop prefixes counts₀ k₀ counts k = length counts ≡ length counts₀
+Inv-loop v prefixes counts₀ k₀ counts k = length counts ≡ length counts₀
 
 abbrev μ-loop : tie.MeasureT-loop
-μ-loop prefixes counts₀ k₀ counts k = 8 - k
+μ-loop v prefixes counts₀ k₀ counts k = 8 - k
+
+add-if-requires : tie.Need-add-if-requires Inv-loop μ-loop
+add-if-requires c κs = search needs
 
 loop-holds : tie.Need-loop-holds Inv-loop μ-loop
 loop-holds c = search needs
@@ -27,8 +30,8 @@ add-add-if-2 c = search needs
 has-requires : tie.Need-has-requires Inv-loop μ-loop
 has-requires c κs = search needs
 
-add-if-requires : tie.Need-add-if-requires Inv-loop μ-loop
-add-if-requires c κs = search needs
+add-if-requires-2 : tie.Need-add-if-requires-2 Inv-loop μ-loop
+add-if-requires-2 c κs = search needs
 
 add-k : tie.Need-add-k Inv-loop μ-loop
 add-k c = search needs
@@ -51,12 +54,13 @@ count-bits-spec =
     (tie.spec
     Inv-loop
     μ-loop
+    add-if-requires
     loop-holds
     add-add-if
     cast-add-if
     add-add-if-2
     has-requires
-    add-if-requires
+    add-if-requires-2
     add-k
     loop-less
     loop-again

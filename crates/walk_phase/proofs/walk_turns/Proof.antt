@@ -7,18 +7,18 @@ use Rattle.log_buffer.specs.Meaning.{logOf, stepsIn}
 use lib.ListN.{length}
 use mathlib.Core.Logic.{⊎-elim}
 use mathlib.Core.Path.{_≡_}
-use Prim.Native.Nat.{_≤_, _<_, _-_}
+use Prim.Native.Nat.{_≤_, _<_, _+_, _-_}
 use borrow.Author.Needs.{needs}
 use Rattle.walk_phase.proofs.walk_turns.Statement.{statement}
 use Rattle.walk_phase.proofs.walk_turns.Tie as tie
 
 abbrev Inv-loop2 : tie.InvT-loop2
 Inv-loop2 pattern log n turns prefixes pivots work flags made i k v whole p u₀ u =
-    (u ≤ p) × (p < 1024) × (1024 ≤ length flags) × (k < 8) × (v < 1024) × (9216 ≤ length pivots)
+    (u ≤ p + 1) × (p < 1024) × (1024 ≤ length flags) × (k < 8) × (v < 1024) × (9216 ≤ length pivots)
     × Searching pattern log n turns prefixes pivots work flags made i k v whole p u
 
 abbrev μ-loop2 : tie.MeasureT-loop2
-μ-loop2 pattern log n turns prefixes pivots work flags made i k v whole p u₀ u = p - u
+μ-loop2 pattern log n turns prefixes pivots work flags made i k v whole p u₀ u = p + 1 - u
 
 abbrev Inv-loop : tie.InvT-loop
 Inv-loop pattern log n turns prefixes pivots₀ work₀ flags₀ made₀ i₀ pivots work flags made i = (i ≤ turns) × (9216 ≤ length pivots) × (16384 ≤ length work) × (1024 ≤ length flags) × (length pivots ≡ length pivots₀) × (length work ≡ length work₀)

@@ -1,4 +1,4 @@
--- `fill_left`: a turn an earlier step.
+-- `fill_left`: a turn a step, from v down.
 use Prim.Native.Nat.{_≤_}
 use borrow.Author.Needs.{needs}
 use lib.ListN.{length}
@@ -7,10 +7,13 @@ use Rattle.other_judge.proofs.front.fill_left.Statement.{statement}
 use Rattle.other_judge.proofs.front.fill_left.Tie as tie
 
 abbrev Inv-loop : tie.InvT-loop
-Inv-loop on v left₀ u₀ left u = (u ≤ v) × (length left ≡ length left₀)
+Inv-loop on v left₀ u₀ left u = (u ≤ u₀) × (length left ≡ length left₀)
 
 abbrev μ-loop : tie.MeasureT-loop
 μ-loop on v left₀ u₀ left u = u
+
+wrapping-add-u16-requires : tie.Need-wrapping-add-u16-requires Inv-loop μ-loop
+wrapping-add-u16-requires c κs = search needs
 
 loop-holds : tie.Need-loop-holds Inv-loop μ-loop
 loop-holds c = search needs
@@ -18,11 +21,26 @@ loop-holds c = search needs
 sub-u : tie.Need-sub-u Inv-loop μ-loop
 sub-u c = search needs
 
-left-at-requires : tie.Need-left-at-requires Inv-loop μ-loop
-left-at-requires c κs = search needs
+cast-get : tie.Need-cast-get Inv-loop μ-loop
+cast-get c = search needs
+
+get-requires : tie.Need-get-requires Inv-loop μ-loop
+get-requires c κs = search needs
+
+left-later-requires : tie.Need-left-later-requires Inv-loop μ-loop
+left-later-requires c κs = search needs
 
 cast-put : tie.Need-cast-put Inv-loop μ-loop
 cast-put c = search needs
+
+place-requires : tie.Need-place-requires Inv-loop μ-loop
+place-requires c κs = search needs
+
+get-requires-2 : tie.Need-get-requires-2 Inv-loop μ-loop
+get-requires-2 c κs = search needs
+
+left-here-requires : tie.Need-left-here-requires Inv-loop μ-loop
+left-here-requires c κs = search needs
 
 put-requires : tie.Need-put-requires Inv-loop μ-loop
 put-requires c κs = search needs
@@ -45,10 +63,16 @@ fill-left-spec =
     (tie.spec
     Inv-loop
     μ-loop
+    wrapping-add-u16-requires
     loop-holds
     sub-u
-    left-at-requires
+    cast-get
+    get-requires
+    left-later-requires
     cast-put
+    place-requires
+    get-requires-2
+    left-here-requires
     put-requires
     loop-less
     loop-again

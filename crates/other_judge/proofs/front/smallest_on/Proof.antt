@@ -1,14 +1,17 @@
--- `smallest_on`: a turn an earlier step.
+-- `smallest_on`: a turn a step up to v.
 use Prim.Native.Nat.{_-_}
 use borrow.Author.Needs.{needs}
 use Rattle.other_judge.proofs.front.smallest_on.Statement.{statement}
 use Rattle.other_judge.proofs.front.smallest_on.Tie as tie
 
 abbrev Inv-loop : tie.InvT-loop
-Inv-loop on left k u v w₀ w = Unit
+Inv-loop on left k u v end w₀ w = Unit
 
 abbrev μ-loop : tie.MeasureT-loop
-μ-loop on left k u v w₀ w = v - w
+μ-loop on left k u v end w₀ w = end - w
+
+wrapping-add-u16-requires : tie.Need-wrapping-add-u16-requires Inv-loop μ-loop
+wrapping-add-u16-requires c κs = search needs
 
 loop-holds : tie.Need-loop-holds Inv-loop μ-loop
 loop-holds c = search needs
@@ -49,6 +52,7 @@ smallest-on-spec =
     (tie.spec
     Inv-loop
     μ-loop
+    wrapping-add-u16-requires
     loop-holds
     cast-get
     get-requires

@@ -18,11 +18,26 @@ put-requires c κs = search needs
 loop-holds : tie.Need-loop-holds Inv-loop μ-loop
 loop-holds c = search needs
 
-begun-at-requires : tie.Need-begun-at-requires Inv-loop μ-loop
-begun-at-requires c κs = search needs
+cast-get : tie.Need-cast-get Inv-loop μ-loop
+cast-get c = search needs
+
+get-requires : tie.Need-get-requires Inv-loop μ-loop
+get-requires c κs = search needs
+
+begun-before-requires : tie.Need-begun-before-requires Inv-loop μ-loop
+begun-before-requires c κs = search needs
 
 cast-put : tie.Need-cast-put Inv-loop μ-loop
 cast-put c = search needs
+
+place-requires : tie.Need-place-requires Inv-loop μ-loop
+place-requires c κs = search needs
+
+get-requires-2 : tie.Need-get-requires-2 Inv-loop μ-loop
+get-requires-2 c κs = search needs
+
+begun-here-requires : tie.Need-begun-here-requires Inv-loop μ-loop
+begun-here-requires c κs = search needs
 
 put-requires-2 : tie.Need-put-requires-2 Inv-loop μ-loop
 put-requires-2 c κs = search needs
@@ -50,8 +65,13 @@ fill-prefixes-spec =
     μ-loop
     put-requires
     loop-holds
-    begun-at-requires
+    cast-get
+    get-requires
+    begun-before-requires
     cast-put
+    place-requires
+    get-requires-2
+    begun-here-requires
     put-requires-2
     add-v
     loop-less

@@ -1,14 +1,17 @@
--- `smallest`: a turn an earlier step.
+-- `smallest`: a turn a step up to v.
 use Prim.Native.Nat.{_-_}
 use borrow.Author.Needs.{needs}
 use Rattle.other_judge.proofs.row.smallest.Statement.{statement}
 use Rattle.other_judge.proofs.row.smallest.Tie as tie
 
 abbrev Inv-loop : tie.InvT-loop
-Inv-loop on begun k v u₀ u = Unit
+Inv-loop on begun k v end u₀ u = Unit
 
 abbrev μ-loop : tie.MeasureT-loop
-μ-loop on begun k v u₀ u = v - u
+μ-loop on begun k v end u₀ u = end - u
+
+wrapping-add-u16-requires : tie.Need-wrapping-add-u16-requires Inv-loop μ-loop
+wrapping-add-u16-requires c κs = search needs
 
 loop-holds : tie.Need-loop-holds Inv-loop μ-loop
 loop-holds c = search needs
@@ -49,6 +52,7 @@ smallest-spec =
     (tie.spec
     Inv-loop
     μ-loop
+    wrapping-add-u16-requires
     loop-holds
     cast-get
     get-requires

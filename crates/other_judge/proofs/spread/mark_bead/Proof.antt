@@ -18,6 +18,12 @@ slice-aggregate-put c = search needs
 put-requires : tie.Need-put-requires Inv-loop μ-loop
 put-requires c κs = search needs
 
+holds-requires : tie.Need-holds-requires Inv-loop μ-loop
+holds-requires c κs = search needs
+
+mark-if-requires : tie.Need-mark-if-requires Inv-loop μ-loop
+mark-if-requires c κs = search needs
+
 step-count-requires : tie.Need-step-count-requires Inv-loop μ-loop
 step-count-requires c κs = search needs
 
@@ -57,11 +63,11 @@ get-requires c κs = search needs
 has-requires : tie.Need-has-requires Inv-loop μ-loop
 has-requires c κs = search needs
 
-holds-requires : tie.Need-holds-requires Inv-loop μ-loop
-holds-requires c κs = search needs
+holds-requires-2 : tie.Need-holds-requires-2 Inv-loop μ-loop
+holds-requires-2 c κs = search needs
 
-mark-if-requires : tie.Need-mark-if-requires Inv-loop μ-loop
-mark-if-requires c κs = search needs
+mark-if-requires-2 : tie.Need-mark-if-requires-2 Inv-loop μ-loop
+mark-if-requires-2 c κs = search needs
 
 add-w : tie.Need-add-w Inv-loop μ-loop
 add-w c = search needs
@@ -86,6 +92,8 @@ mark-bead-spec =
     μ-loop
     slice-aggregate-put
     put-requires
+    holds-requires
+    mark-if-requires
     step-count-requires
     wrapping-add-u16-requires
     loop-holds
@@ -99,8 +107,8 @@ mark-bead-spec =
     place-requires
     get-requires
     has-requires
-    holds-requires
-    mark-if-requires
+    holds-requires-2
+    mark-if-requires-2
     add-w
     loop-less
     loop-again

@@ -18,6 +18,9 @@ slice-aggregate-put c = search needs
 put-requires : tie.Need-put-requires Inv-loop μ-loop
 put-requires c κs = search needs
 
+mark-if-requires : tie.Need-mark-if-requires Inv-loop μ-loop
+mark-if-requires c κs = search needs
+
 step-count-requires : tie.Need-step-count-requires Inv-loop μ-loop
 step-count-requires c κs = search needs
 
@@ -42,8 +45,8 @@ cast-put c = search needs
 put-requires-2 : tie.Need-put-requires-2 Inv-loop μ-loop
 put-requires-2 c κs = search needs
 
-mark-if-requires : tie.Need-mark-if-requires Inv-loop μ-loop
-mark-if-requires c κs = search needs
+mark-if-requires-2 : tie.Need-mark-if-requires-2 Inv-loop μ-loop
+mark-if-requires-2 c κs = search needs
 
 add-w : tie.Need-add-w Inv-loop μ-loop
 add-w c = search needs
@@ -68,6 +71,7 @@ mark-routes-spec =
     μ-loop
     slice-aggregate-put
     put-requires
+    mark-if-requires
     step-count-requires
     wrapping-add-u16-requires
     loop-holds
@@ -76,7 +80,7 @@ mark-routes-spec =
     slice-aggregate-put-2
     cast-put
     put-requires-2
-    mark-if-requires
+    mark-if-requires-2
     add-w
     loop-less
     loop-again

@@ -1,8 +1,8 @@
--- `left_at`: a turn a step after u.
+-- `left_later`: a turn a step after u.
 use Prim.Native.Nat.{_≤_}
 use borrow.Author.Needs.{needs}
-use Rattle.other_judge.proofs.front.left_at.Statement.{statement}
-use Rattle.other_judge.proofs.front.left_at.Tie as tie
+use Rattle.other_judge.proofs.front.left_later.Statement.{statement}
+use Rattle.other_judge.proofs.front.left_later.Tie as tie
 
 abbrev Inv-loop : tie.InvT-loop
 Inv-loop on left u v all₀ w₀ all w = w ≤ v
@@ -37,8 +37,8 @@ loop-again c = search needs
 returns : tie.Need-returns Inv-loop μ-loop
 returns c = search needs
 
-pub left-at-spec : {M : Type 1} → statement M
-left-at-spec =
+pub left-later-spec : {M : Type 1} → statement M
+left-later-spec =
     tie.close
     (tie.spec
     Inv-loop

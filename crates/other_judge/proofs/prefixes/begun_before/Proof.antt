@@ -1,8 +1,8 @@
--- `begun_at`: a turn an earlier step.
+-- `begun_before`: a turn an earlier step.
 use Prim.Native.Nat.{_-_}
 use borrow.Author.Needs.{needs}
-use Rattle.other_judge.proofs.prefixes.begun_at.Statement.{statement}
-use Rattle.other_judge.proofs.prefixes.begun_at.Tie as tie
+use Rattle.other_judge.proofs.prefixes.begun_before.Statement.{statement}
+use Rattle.other_judge.proofs.prefixes.begun_before.Tie as tie
 
 abbrev Inv-loop : tie.InvT-loop
 Inv-loop on begun v all₀ u₀ all u = Unit
@@ -37,8 +37,8 @@ loop-again c = search needs
 returns : tie.Need-returns Inv-loop μ-loop
 returns c = search needs
 
-pub begun-at-spec : {M : Type 1} → statement M
-begun-at-spec =
+pub begun-before-spec : {M : Type 1} → statement M
+begun-before-spec =
     tie.close
     (tie.spec
     Inv-loop
