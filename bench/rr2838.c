@@ -1,9 +1,9 @@
 /* The judge by the procedure of RR-2838 (Hurfin, Raynal: Detecting Diamond Necklaces in Labeled Dags), written straightforwardly.
  *
  * Steps are visited in their order. start_states[v][k][u] is the set of the states in which a copy of automaton k, started at u, can be
- * after a reading of some route from u to v; at u = v it is the start of a copy launched there. Where the paper's Figure 3 and document 01
- * differ, document 01 is followed: a route has at least one link, so a copy is not tested in the visit that launches it; ALL asks for a
- * route; a step without labels leaves the states as they are; each pivot is the smallest that serves.
+ * after a reading of some route from u to v; at u = v it is the start of a copy launched there. As Figure 3 of the paper has it, a copy is
+ * tested in the visit that launches it too: a step has a route to itself. Where the paper and document 01 differ, document 01 is followed:
+ * ALL asks for a route; a step without labels leaves the states as they are; each pivot is the smallest that serves.
  *
  * How fast this is depends much on how members of small sets are found, so a tuned form stands beside the straightforward one. */
 #include "bench.h"
@@ -51,14 +51,14 @@ static inline void recognize(const uint16_t *pattern, const uint16_t *log, unsig
     }
 }
 
-/* The smallest u whose copy of automaton k recognizes at v, or v where there is none: the tests of lines 6 and 8. */
+/* The smallest u up to v whose copy of automaton k recognizes at v, or a number past v where there is none: the tests of lines 6 and 8. */
 static unsigned recognized(const uint16_t *pattern, unsigned v, unsigned k) {
     const uint16_t *here = start_states[v][k];
     unsigned final = pattern[FINALS + k], u = 0;
     if (pattern[RULES + k] == ALL) {
-        while (u < v && !(here[u] && !(here[u] & ~final))) u++;
+        while (u <= v && !(here[u] && !(here[u] & ~final))) u++;
     } else {
-        while (u < v && !(here[u] & final)) u++;
+        while (u <= v && !(here[u] & final)) u++;
     }
     return u;
 }
@@ -70,9 +70,9 @@ static inline uint16_t visit(const uint16_t *pattern, const uint16_t *log, unsig
     for (unsigned k = 0; k < beads; k++) recognize(pattern, log, v, k, tuned);
     if (v == 0) start_states[0][0][0] = 1;
     for (unsigned k = 0; k < beads; k++) {
-        if (recognized(pattern, v, k) == v) continue;
+        if (recognized(pattern, v, k) > v) continue;
         prefixes |= 1u << k;
-        /* Lines 7 and 9: a copy of the next automaton starts here. */
+        /* Lines 7 and 9: a copy of the next automaton starts here, and is tested next. */
         if (k + 1 < beads) start_states[v][k + 1][v] = 1;
     }
     return prefixes;

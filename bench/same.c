@@ -39,7 +39,7 @@ static unsigned pull(const uint16_t *row, unsigned set) {
     return all;
 }
 
-/* For each step below the target the states from which some reading of some route to the target ends in the goal. */
+/* For each step up to the target the states from which some reading of some route to the target ends in the goal. */
 static void backward_pass(const struct judging *j, unsigned target, uint16_t goal, uint16_t *restrict states) {
     const uint16_t *restrict log = j->log, *restrict table = j->table;
     memset(states, 0, MOST_STEPS * sizeof *states);
@@ -57,16 +57,16 @@ static int prefix_at(const struct judging *j, unsigned bead, unsigned u) {
     return bead == 0 ? u == 0 : j->prefixes[u] >> (bead - 1) & 1;
 }
 
-/* Flags the steps that serve as the pivot before the target. */
+/* Flags the steps, up to the target, that serve as the pivot before it. */
 static void make_flags(struct judging *j, unsigned bead, unsigned target) {
     uint16_t states[MOST_STEPS], others[MOST_STEPS];
     unsigned final = j->pattern[FINALS + bead], count = j->pattern[STATE_COUNTS + bead];
     backward_pass(j, target, final, states);
     if (j->pattern[RULES + bead] == ALL) {
         backward_pass(j, target, ((1u << count) - 1) & ~final, others);
-        for (unsigned u = 0; u < target; u++) j->flags[u] = prefix_at(j, bead, u) && (states[u] & 1) && !(others[u] & 1);
+        for (unsigned u = 0; u <= target; u++) j->flags[u] = prefix_at(j, bead, u) && (states[u] & 1) && !(others[u] & 1);
     } else {
-        for (unsigned u = 0; u < target; u++) j->flags[u] = prefix_at(j, bead, u) && (states[u] & 1);
+        for (unsigned u = 0; u <= target; u++) j->flags[u] = prefix_at(j, bead, u) && (states[u] & 1);
     }
 }
 
@@ -79,9 +79,9 @@ static void serving(struct judging *j, unsigned bead, unsigned target) {
     j->target = target;
 }
 
-static unsigned first_flag(const struct judging *j, unsigned below) {
+static unsigned first_flag(const struct judging *j, unsigned last) {
     unsigned u = 0;
-    while (u < below && !j->flags[u]) u++;
+    while (u <= last && !j->flags[u]) u++;
     return u;
 }
 
@@ -94,7 +94,7 @@ static unsigned entered(const uint16_t *row, unsigned set) {
     return all;
 }
 
-/* For each step after u the states that some reading of some route from u reaches. */
+/* For each step from u on the states that some reading of some route from u reaches. */
 static void forward_pass(const struct judging *j, unsigned u, uint16_t *restrict states) {
     const uint16_t *restrict log = j->log, *restrict table = j->table;
     memset(states, 0, MOST_STEPS * sizeof *states);
@@ -113,11 +113,11 @@ static int reaches(const struct judging *j, unsigned bead, unsigned set) {
     return (set & final) != 0;
 }
 
-/* Has every step after u the bead already? */
+/* Has every step from u on the bead already? */
 static int all_marked(const struct judging *j, unsigned bead, unsigned u) {
     unsigned v = j->steps;
-    while (u + 1 < v && j->prefixes[v - 1] >> bead & 1) v--;
-    return v <= u + 1;
+    while (u < v && j->prefixes[v - 1] >> bead & 1) v--;
+    return v <= u;
 }
 
 static void mark_prefixes(struct judging *j) {
@@ -127,7 +127,7 @@ static void mark_prefixes(struct judging *j) {
         for (unsigned u = 0; u < j->steps; u++) {
             if (!prefix_at(j, k, u) || all_marked(j, k, u)) continue;
             forward_pass(j, u, states);
-            for (unsigned v = u + 1; v < j->steps; v++) {
+            for (unsigned v = u; v < j->steps; v++) {
                 if (reaches(j, k, states[v])) j->prefixes[v] |= 1u << k;
             }
         }

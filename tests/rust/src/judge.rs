@@ -36,7 +36,7 @@ fn row(holds: &[Vec<bool>], reaches: &[Vec<Vec<bool>>], v: usize) -> Row {
         row[1 + beads] = pivot as u16;
         for k in (0..beads).rev() {
             // reaches[k] has only steps at which the first k beads hold.
-            pivot = (0..pivot).find(|&u| reaches[k][u][pivot]).expect("the first k + 1 beads hold at the pivot");
+            pivot = (0..=pivot).find(|&u| reaches[k][u][pivot]).expect("the first k + 1 beads hold at the pivot");
             row[1 + k] = pivot as u16;
         }
     }
@@ -55,21 +55,21 @@ fn moves(bead: &Bead, log: &Log) -> Vec<Vec<u16>> {
 /// For each step v whether the bead holds on (start, v).
 fn verdicts(bead: &Bead, moves: &[Vec<u16>], log: &Log, start: usize) -> Vec<bool> {
     let finals = bead.states.iter().enumerate().map(|(q, state)| (state.is_final as u16) << q).sum::<u16>();
-    // The states in which some reading of some route from the start can end; nothing where no route leads.
+    // The states in which some reading of some route from the start can end; nothing where no route leads. The start has a route to
+    // itself, on which nothing is read.
     let mut ends: Vec<Option<u16>> = vec![None; log.steps.len()];
-    let mut verdicts = vec![false; log.steps.len()];
+    ends[start] = Some(1);
     for v in start + 1..log.steps.len() {
-        let before = |u: usize| if u == start { Some(1) } else { ends[u] };
-        let came = log.steps[v].links.iter().filter_map(|&u| before(u as usize)).reduce(|a, b| a | b);
+        let came = log.steps[v].links.iter().filter_map(|&u| ends[u as usize]).reduce(|a, b| a | b);
         ends[v] = came.map(|set| (0..bead.states.len()).filter(|q| set >> q & 1 == 1).fold(0, |to, q| to | moves[v][q]));
-        verdicts[v] = match (ends[v], bead.rule) {
-            (None, _) => false,
-            (Some(set), Rule::Some) => set & finals != 0,
-            // Each reading ends in exactly one state (refusal 16 sees to that): all are words if no other state is reached.
-            (Some(set), Rule::All) => set & !finals == 0,
-        };
     }
-    verdicts
+    let holds = |ends: Option<u16>| match (ends, bead.rule) {
+        (None, _) => false,
+        (Some(set), Rule::Some) => set & finals != 0,
+        // Each reading ends in exactly one state (refusal 16 sees to that): all are words if no other state is reached.
+        (Some(set), Rule::All) => set & !finals == 0,
+    };
+    ends.into_iter().map(holds).collect()
 }
 
 /// Whether the bead holds on (u, v), by writing out every reading of every route: the definition itself, for small logs.
@@ -81,16 +81,16 @@ pub fn holds_by_readings(bead: &Bead, log: &Log, u: usize, v: usize) -> bool {
     }
 }
 
-/// The readings of all routes from u to v. A step without labels gives the empty letter; no route leads from a step to itself.
+/// The readings of all routes from u to v. A step without labels gives the empty letter. One route leads from a step to itself, with no
+/// link: its reading is the empty word.
 fn readings(log: &Log, u: usize, v: usize) -> Vec<Vec<usize>> {
+    if u == v {
+        return vec![Vec::new()];
+    }
     let labels = log.steps[v].labels;
     let mut all = Vec::new();
-    for &link in &log.steps[v].links {
-        let mut before = if link as usize > u { readings(log, u, link as usize) } else { Vec::new() };
-        if link as usize == u {
-            before.push(Vec::new());
-        }
-        for word in before {
+    for &link in log.steps[v].links.iter().filter(|&&link| link as usize >= u) {
+        for word in readings(log, u, link as usize) {
             match labels {
                 0 => all.push(word),
                 _ => all.extend((0..16).filter(|a| labels >> a & 1 == 1).map(|a| [&word[..], &[a]].concat())),

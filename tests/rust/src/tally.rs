@@ -15,6 +15,9 @@ pub struct Tally {
     prefixes: BTreeMap<u16, usize>,
     /// Rows at which the whole pattern holds, by its number of beads.
     whole: BTreeMap<usize, usize>,
+    /// Of these, how many have a pivot twice, and how many are of step 0.
+    twice: usize,
+    start: usize,
     /// How often each call that writes had a text buffer so much longer (2: or more) or shorter (-2: or less) than the text.
     rooms: BTreeMap<(&'static str, isize), usize>,
     /// How often what a call wrote was read back.
@@ -78,9 +81,12 @@ impl Tally {
     }
 
     pub fn count_rows(&mut self, rows: &[u16], beads: usize) {
-        for row in rows.chunks(ROW_LENGTH) {
+        for (step, row) in rows.chunks(ROW_LENGTH).enumerate() {
+            let whole = row[0] >> (beads - 1) & 1 == 1;
             *self.prefixes.entry(row[0]).or_default() += 1;
-            *self.whole.entry(beads).or_default() += (row[0] >> (beads - 1) & 1) as usize;
+            *self.whole.entry(beads).or_default() += whole as usize;
+            self.twice += (whole && row[1..2 + beads].windows(2).any(|pair| pair[0] == pair[1])) as usize;
+            self.start += (whole && step == 0) as usize;
         }
     }
 
@@ -125,7 +131,7 @@ impl Tally {
         missed
     }
 
-    /// Prints it, and says whether all is well: no difference, and every number, cause and length reached.
+    /// Prints it, and says whether all is well: no difference, and every number, cause, length and kind of row reached.
     pub fn report(&self) -> bool {
         let mut missed = 0;
         for (call, numbers) in NUMBERS {
@@ -156,9 +162,10 @@ impl Tally {
         for (beads, count) in &self.whole {
             print!(" {beads}: {count}");
         }
-        println!();
+        println!("; with a pivot twice: {}, of step 0: {}", self.twice, self.start);
+        missed += [self.twice, self.start].iter().filter(|&&count| count == 0).count();
         println!(
-            "calls {}, differ {}, numbers, causes or lengths not reached {missed}",
+            "calls {}, differ {}, numbers, causes, lengths or kinds of rows not reached {missed}",
             self.answers.values().sum::<usize>(),
             self.differences
         );
