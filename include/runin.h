@@ -90,8 +90,9 @@ uint64_t runin_read_log(const uint8_t *text, size_t text_len, uint16_t label_cou
 
 /* Judges a log by a pattern. Accepted: fills all RUNIN_RESULT_LENGTH numbers, a row a step and zeros, and leaves RUNIN_WORK_LENGTH zeros in
  * the work buffer; the count is the number of steps at which the whole pattern holds. A row is the set of beginnings that hold (bit k - 1
- * for the first k beads), then, if the whole pattern holds, its pivots p0 onward. The pattern and the log buffer are only read. Both
- * other buffers may hold anything before the call. Refusals: 1, 2, 3, 4, 6, 7. */
+ * for the first k beads), then, if the whole pattern holds, its pivots p0 onward, which never fall: p0 is 0, the last is the step itself, and
+ * a step that ends several beads stands as often. At step 0 all pivots are 0, so whether a row has pivots is told by the last bead's bit
+ * alone. The pattern and the log buffer are only read. Both other buffers may hold anything before the call. Refusals: 1, 2, 3, 4, 6, 7. */
 uint64_t runin_judge(const uint16_t *pattern, size_t pattern_len, const uint16_t *log, size_t log_len,
                      uint16_t *result, size_t result_len, uint16_t *work, size_t work_len);
 
