@@ -11,7 +11,7 @@ use lib.ListN.{length, getD, set, replicate, length-replicate}
 use lib.Seq.{getD-set-same, getD-set-other}
 use Rattle.sets.proofs.Agree.{someBelow-ext, someBelow-is}
 use Rattle.lists.proofs.Tables.{zeros-at}
-use Rattle.sets.specs.Sets.{member, setOf, someBelow}
+use Rattle.sets.specs.Sets.{member, setOf, singleton, someBelow}
 use Rattle.sets.proofs.Bits.{member-empty}
 use Rattle.sets.proofs.Laws.{member-setOf, member-singleton}
 use Rattle.necklace.specs.Compute.{someOf}
@@ -57,8 +57,9 @@ pub record Turned (log work : List ℕ) (u x : ℕ) (l : List ℕ) : Type 0 wher
       → family l w q ≡ ahead (logOf log) (automatonOf b j) u (x - suc u) w q
 
 module _ (log work : List ℕ) (u : ℕ) where
-  pub pass-start : (old l : List ℕ) → u < stepsIn log → Laid log → 1024 ≤ length old → l ≡ set (replicate (length old) 0) u 1 → Turned log work u (u + 1) l
-  pass-start old l h laid long e = record {
+  pub pass-start : (old l : List ℕ) (start : ℕ) → u < stepsIn log → Laid log → 1024 ≤ length old → start ≡ singleton 0 → l ≡ set (replicate (length old) 0) u start
+      → Turned log work u (u + 1) l
+  pass-start old l start h laid long one e = record {
     sets = λ b j t w q k.
         first w q
         ∙ sym (let z : u + 1 - suc u ≡ 0 = omega arith in ap (λ (d : ℕ). ahead (logOf log) (automatonOf b j) u d w q) z ∙ ahead-first (logOf log) (automatonOf b j) u w q);
@@ -73,10 +74,11 @@ module _ (log work : List ℕ) (u : ℕ) where
       first : (w q : ℕ) → family l w q ≡ (eqb w u && eqb q 0)
       first w q = ap (λ (m : List ℕ). family m w q) e ∙ go (ℕ-discrete w u)
         where
-          go : Dec (w ≡ u) → family (set none u 1) w q ≡ (eqb w u && eqb q 0)
+          go : Dec (w ≡ u) → family (set none u start) w q ≡ (eqb w u && eqb q 0)
           go (yes z) =
-              rw (eq-eqb w u z) (ap (member q) (ap (λ (i : ℕ). getD (set none u 1) i 0) z ∙ getD-set-same none u 1 0 inside) ∙ member-singleton q 0)
-          go (no n) = rw (ne-eqb w u n) (ap (member q) (getD-set-other none u w 1 0 n ∙ zeros-at (length old) w) ∙ member-empty q)
+              rw (eq-eqb w u z)
+              (ap (member q) (ap (λ (i : ℕ). getD (set none u start) i 0) z ∙ getD-set-same none u start 0 inside ∙ one) ∙ member-singleton q 0)
+          go (no n) = rw (ne-eqb w u n) (ap (member q) (getD-set-other none u w start 0 n ∙ zeros-at (length old) w) ∙ member-empty q)
 
   module _ (x : ℕ) (l : List ℕ) (up : u < x) (inv : Turned log work u x l) where
     pub pass-more : (n t : ℕ) → Arrived log work l x t → 1024 ≤ length l → Laid log → n ≡ getD log 0 0 → x < n → Turned log work u (x + 1) (set l x t)

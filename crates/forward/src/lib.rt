@@ -82,7 +82,7 @@ pub fn forward_pass(log: &[u16], work: &[u16], u: usize, states: &mut [u16])
     requires { ⌜ mostSteps ≤ length (now states) ⌝ }
     ensures { λ _. ⌜ ForwardedBy (now (log .entry)) (now (work .entry)) u (now (states .exit)) ⌝ }
 {
-    backward::begin_pass(u, 1, states);
+    backward::begin_pass(u, sets::singleton(0), states);
     let n = lists::wide(log[0]);
     let mut x = u + 1;
     while x < n {

@@ -341,9 +341,6 @@ within-is n s =
 
 -- ---- the machine's shift `1 << n` is 2 ^ n modulo m, where m is one more than the largest number of its type
 
-pub singleton-is : (k m i : ℕ) → i < k → T (leb (2 ^ k) m) → 1 * 2 ^ i % m ≡ singleton i
-singleton-is k m i h fits = let l : 2 ^ i < 2 ^ k = pow-lt h in let g = leb→le (2 ^ k) m fits in shift-exact m i (omega arith)
-
 module _ (k m n s : ℕ) (h : n ≤ k) (fits : T (ltb (2 ^ k) m)) where
   full : 1 * 2 ^ n % m ≡ 2 ^ n
   full = let l : 2 ^ n ≤ 2 ^ k = pow-mono h in let g = ltb→lt (2 ^ k) m fits in shift-exact m n (omega arith)
@@ -371,7 +368,6 @@ pub ruleset kit = (
   overlaps-is,
   single-count,
   within-is,
-  singleton-is,
   full-positive,
   rest-small,
   complement-shift,

@@ -3,3 +3,4 @@ pub mod Bits
 pub mod Laws
 pub mod Agree
 pub mod Below
+pub mod ChartLaws

@@ -12,12 +12,30 @@ pub fn member(s: u16, i: u16) -> bool
     (s >> i) % 2 == 1
 }
 
-// The set {i}: 2 to the i.
+// The set {i}: 2 to the i, as the wall chart has it (specs/Chart.antt), a case a line. The last arm is never taken.
 pub fn singleton(i: u16) -> u16
     requires { ⌜ i < 16 ⌝ }
     ensures { λ r. ⌜ r ≡ singleton i ⌝ }
 {
-    1 << i
+    match i {
+        0 => 1,
+        1 => 2,
+        2 => 4,
+        3 => 8,
+        4 => 16,
+        5 => 32,
+        6 => 64,
+        7 => 128,
+        8 => 256,
+        9 => 512,
+        10 => 1024,
+        11 => 2048,
+        12 => 4096,
+        13 => 8192,
+        14 => 16384,
+        15 => 32768,
+        _ => 0,
+    }
 }
 
 // The members of either set.

@@ -11,6 +11,7 @@ use Rattle.sets.proofs.Agree.{setOf-ext, setOf-empty, setOf-one, someBelow-ext,
 use Rattle.lists.specs.Places.{at}
 use Rattle.sets.specs.Sets.{_∈_, member, setOf, singleton, union, overlaps, someBelow, members}
 use Rattle.sets.proofs.Truth.{same, and-i, and-l, and-r}
+use Rattle.sets.proofs.Laws.{setOf-none, setOf-put, setOf-skip, setOf-end}
 use Rattle.sets.proofs.Laws.{member-setOf, member-singleton, someBelow-none, someBelow-more, someBelow-out, someBelow-in, members-out}
 use Rattle.necklace.specs.Dag.{Dag}
 use Rattle.necklace.specs.Automaton.{Automaton}
@@ -100,6 +101,11 @@ table-end b j log work i d h = record { entry = λ x q l k. entry x q l k }
 pub ruleset table-kit = (filled-none, table-more, table-end)
 
 -- ---- pulling a set back over a vertex
+
+pub value-at : (values : List ℕ) (q : ℕ) → Filled singleton 16 values → q < 16 → getD values q 0 ≡ singleton q
+value-at values q d h = d .number q h
+
+pub ruleset pull-kit = (setOf-none, setOf-put, setOf-skip, setOf-end, value-at)
 
 -- some state that is reached lies in S
 reached-enters : (A : Automaton) (ls : List ℕ) (S : ℕ → Bool) (q : ℕ) → q < 16 → ((a r : ℕ) → r ∈ A .next q a → r < 16)

@@ -2,12 +2,12 @@
 ghost use mathlib.Core.Path.{_≡_};
 ghost use Prim.Native.Nat.{_<_, _≤_};
 ghost use lib.ListN.{length};
-ghost use Rattle.sets.specs.Sets.{setOf, members};
+ghost use Rattle.sets.specs.Sets.{setOf, singleton, members};
 ghost use Rattle.pattern_line.specs.Limits.{mostBeads, mostStates, bufferLength as patternLength};
 ghost use Rattle.log_line.specs.Limits.{mostSteps};
 ghost use Rattle.log_buffer.specs.Meaning.{logOf, stepsIn};
 ghost use Rattle.pattern_buffer.specs.Meaning.{automatonOf};
-ghost use Rattle.step_table.specs.Table.{reached, tableLength, Tabled, Laid, pulled, BareIf};
+ghost use Rattle.step_table.specs.Table.{reached, tableLength, Tabled, Filled, Laid, pulled, BareIf};
 
 // The states to which entering a vertex with these labels leads from a state: the state itself where there are none.
 fn enter(pattern: &[u16], bead: usize, labels: u16, state: u16) -> u16
@@ -51,17 +51,33 @@ pub fn fill_table(pattern: &[u16], log: &[u16], bead: usize, work: &mut [u16])
     }
 }
 
-// The states from which entering the step x leads into the set.
+// The value of each state, from the leaf.
+fn state_values() -> [u16; 16]
+    ensures { λ r. ⌜ Filled singleton 16 r ⌝ }
+{
+    let mut values = [0u16; 16];
+    let mut state: u16 = 0;
+    while state < 16 {
+        let at = state as usize;
+        values[at] = sets::singleton(state);
+        state += 1;
+    }
+    values
+}
+
+// The states from which entering the step x leads into the set. The sixteen values are laid out beforehand: the compiler then makes a
+// constant of them, and one look at all states at once of the loop.
 pub fn pull(work: &[u16], x: usize, set: u16) -> u16
     requires { ⌜ x < mostSteps ⌝ }
     requires { ⌜ tableLength ≤ length (now work) ⌝ }
     ensures { λ r. ⌜ r ≡ setOf 16 (pulled (now (work .entry)) x set) ⌝ }
 {
+    let values = state_values();
     let mut all: u16 = 0;
-    let mut state: u16 = 0;
+    let mut state = 0;
     while state < 16 {
-        let meets = sets::overlaps(work[16 * x + (state as usize)], set);
-        let one = sets::singleton(state);
+        let meets = sets::overlaps(work[16 * x + state], set);
+        let one = values[state];
         state += 1;
         if meets {
             all = sets::union(all, one);

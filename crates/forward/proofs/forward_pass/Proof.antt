@@ -14,6 +14,9 @@ Inv-loop log work u states₀ n x₀ states x = (u < x) × (x ≤ n) × (1024 �
 abbrev μ-loop : tie.MeasureT-loop
 μ-loop log work u states₀ n x₀ states x = n - x
 
+singleton-requires : tie.Need-singleton-requires Inv-loop μ-loop
+singleton-requires c κs = search (needs, kit)
+
 begin-pass-requires : tie.Need-begin-pass-requires Inv-loop μ-loop
 begin-pass-requires c κs = search (needs, kit)
 
@@ -59,6 +62,7 @@ forward-pass-spec =
     (tie.spec
     Inv-loop
     μ-loop
+    singleton-requires
     begin-pass-requires
     shared-slice-read-wide
     wide-requires

@@ -1,27 +1,27 @@
--- `pull` gathers the states that lead into a set.
-use Rattle.sets.proofs.Laws.{gathering as kit}
-use Rattle.step_table.specs.Table.{pulled}
-use Rattle.sets.specs.Sets.{setOf}
-use mathlib.Core.Path.{_≡_}
+-- `pull` gathers the states that lead into a set, each with its value.
+use Rattle.step_table.proofs.TableLaws.{pull-kit as kit}
 use Prim.Native.Nat.{_≤_, _-_}
+use mathlib.Core.Path.{_≡_}
+use Rattle.sets.specs.Sets.{setOf, singleton}
+use Rattle.step_table.specs.Table.{Filled, pulled}
 use borrow.Author.Needs.{needs}
 use Rattle.step_table.proofs.pull.Statement.{statement}
 use Rattle.step_table.proofs.pull.Tie as tie
 
 abbrev Inv-loop : tie.InvT-loop
-Inv-loop work x set all₀ state₀ all state = (state ≤ 16) × (all ≡ setOf state (pulled work x set))
+Inv-loop work x set values all₀ state₀ all state = (state ≤ 16) × Filled singleton 16 values × (all ≡ setOf state (pulled work x set))
 
 abbrev μ-loop : tie.MeasureT-loop
-μ-loop work x set all₀ state₀ all state = 16 - state
+μ-loop work x set values all₀ state₀ all state = 16 - state
+
+state-values-requires : tie.Need-state-values-requires Inv-loop μ-loop
+state-values-requires c κs = search (needs, kit)
 
 loop-holds : tie.Need-loop-holds Inv-loop μ-loop
 loop-holds c = search (needs, kit)
 
 mul-overlaps : tie.Need-mul-overlaps Inv-loop μ-loop
 mul-overlaps c = search (needs, kit)
-
-cast-overlaps : tie.Need-cast-overlaps Inv-loop μ-loop
-cast-overlaps c = search (needs, kit)
 
 add-overlaps : tie.Need-add-overlaps Inv-loop μ-loop
 add-overlaps c = search (needs, kit)
@@ -35,8 +35,11 @@ shared-slice-read-overlaps c = search (needs, kit)
 overlaps-requires : tie.Need-overlaps-requires Inv-loop μ-loop
 overlaps-requires c κs = search (needs, kit)
 
-singleton-requires : tie.Need-singleton-requires Inv-loop μ-loop
-singleton-requires c κs = search (needs, kit)
+mul-one : tie.Need-mul-one Inv-loop μ-loop
+mul-one c = search (needs, kit)
+
+array-read-one : tie.Need-array-read-one Inv-loop μ-loop
+array-read-one c = search (needs, kit)
 
 add-state : tie.Need-add-state Inv-loop μ-loop
 add-state c = search (needs, kit)
@@ -65,14 +68,15 @@ pull-spec =
     (tie.spec
     Inv-loop
     μ-loop
+    state-values-requires
     loop-holds
     mul-overlaps
-    cast-overlaps
     add-overlaps
     mul-overlaps-2
     shared-slice-read-overlaps
     overlaps-requires
-    singleton-requires
+    mul-one
+    array-read-one
     add-state
     union-requires
     loop-less
