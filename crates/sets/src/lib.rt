@@ -12,7 +12,8 @@ pub fn member(s: u16, i: u16) -> bool
     (s >> i) % 2 == 1
 }
 
-// The set {i}: 2 to the i, as the wall chart has it (specs/Chart.antt), a case a line. The last arm is never taken.
+// The set {i}: 2 to the i, as the wall chart has it (specs/Chart.antt), a case a line. The language wants the last arm; `requires` rules
+// it out.
 pub fn singleton(i: u16) -> u16
     requires { ⌜ i < 16 ⌝ }
     ensures { λ r. ⌜ r ≡ singleton i ⌝ }

@@ -65,8 +65,8 @@ fn state_values() -> [u16; 16]
     values
 }
 
-// The states from which entering the step x leads into the set. The sixteen values are laid out beforehand: the compiler then makes a
-// constant of them, and one look at all states at once of the loop.
+// The states from which entering the step x leads into the set. The values are laid out before the loop and not asked for in it: the
+// compiler then looks at all sixteen states at once.
 pub fn pull(work: &[u16], x: usize, set: u16) -> u16
     requires { ⌜ x < mostSteps ⌝ }
     requires { ⌜ tableLength ≤ length (now work) ⌝ }
