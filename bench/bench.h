@@ -32,10 +32,12 @@ unsigned header_place(const uint8_t *header, size_t header_len);
 pattern_writer plain_write_pattern;
 log_writer plain_write_log;
 
-/* same.c: the library's algorithm. rr2838.c: the procedure of RR-2838, straightforward and tuned. */
+/* same.c: the library's algorithm, sixteen forward passes at once. rr2838.c: the procedure of RR-2838, straightforward and tuned. fastest.c: for
+ * speed alone. */
 judge same_judge;
 judge rr2838_judge;
 judge rr2838_tuned_judge;
+judge fastest_judge;
 
 /* buffers.c: whether some accepted text gives a buffer, and the host's faults, 1 to 7, for all judges above: 0 where there is none. */
 int is_pattern(const uint16_t *pattern);
@@ -59,11 +61,13 @@ struct input {
     uint8_t pattern[16384], log[65535];
 };
 
-/* FULL_SIZE is a shape at every limit: 8 beads of 16 states, 16 labels, 1,024 steps, 4,096 links. */
-enum { SHAPES = 7, FULL_SIZE = 1, SWEEP = 5 };
+/* The FULL_SIZES shapes from FULL_SIZE on have 8 beads of 16 states, 16 labels, 1,024 steps; FULL_SIZE has 4,096 links too. */
+enum { TYPICAL, FULL_SIZE, FULL_SIZES = 6, LONG_TYPICAL = 7, RACK, SHAPES, SWEEP = 5 };
+const char *shape_name(int index);
 void make_shape(int index, struct input *input);
-void make_sweep(int index, struct input *input);
+void make_sweep(int some_alone, int index, struct input *input);
 void make_random(uint64_t seed, struct input *input);
+void make_long(uint64_t seed, struct input *input);
 uint64_t draw(uint64_t *seed, uint64_t below);
 
 /* measure.c: CPU time of this process in seconds, the median, and the most stack that a call uses. */

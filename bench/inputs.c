@@ -7,9 +7,9 @@
 #include <stdio.h>
 #include <string.h>
 
-enum links { RANDOM_LINKS, NEAR_LINKS, BOARD_LINKS };
-enum labelling { ALL_LABELS, SOME_LABELS, NO_LABELS, RUN_IN_LABELS };
-enum tables { MIXED_TABLES, LATE_TABLES, RUN_IN_TABLES };
+enum links { RANDOM_LINKS, NEAR_LINKS, BOARD_LINKS, RACK_LINKS };
+enum labelling { ALL_LABELS, SOME_LABELS, NO_LABELS, RUN_IN_LABELS, RACK_LABELS };
+enum tables { MIXED_TABLES, LATE_TABLES, RUN_IN_TABLES, RACK_TABLES, ANY_TABLES };
 
 struct shape {
     const char *name;
@@ -27,6 +27,8 @@ static const struct shape shapes[SHAPES] = {
     {"late pivots, SOME first", 1024, 4096, 16, 8, 16, SOME, NEAR_LINKS, SOME_LABELS, LATE_TABLES},
     {"bare steps", 1024, 4096, 16, 8, 16, SOME, RANDOM_LINKS, NO_LABELS, MIXED_TABLES},
     {"chain", 1024, 1023, 16, 8, 16, SOME, NEAR_LINKS, SOME_LABELS, MIXED_TABLES},
+    {"typical, 1,024 steps", 1024, 0, 3, 4, 3, SOME, BOARD_LINKS, RUN_IN_LABELS, RUN_IN_TABLES},
+    {"rack", 1024, 0, 4, 3, 4, SOME, RACK_LINKS, RACK_LABELS, RACK_TABLES},
 };
 
 /* A number below the limit (xorshift). */
@@ -80,6 +82,47 @@ static int run_in_final(int bead, int rule, int state) {
     return bead < 3 ? state == 0 : state < 2;
 }
 
+/* Labels vac, hot, scan, vent. SOME: vac and later hot is read, and no vent after them but for a new round. ALL: no vent between hot and the
+ * scan that follows it. SOME: hot and later scan is read, and no vent at all. */
+static unsigned rack_next(int bead, int state, int label) {
+    static const unsigned next[3][4][4] = {
+        {{2, 1, 1, 1}, {2, 4, 2, 1}, {4, 4, 4, 8}, {2, 8, 8, 8}},
+        {{1, 2, 1, 1}, {2, 2, 4, 8}, {4, 2, 4, 1}, {8, 8, 8, 8}},
+        {{1, 2, 1, 8}, {2, 2, 4, 8}, {4, 4, 4, 8}, {8, 8, 8, 8}},
+    };
+    return next[bead][state][label];
+}
+
+static int rack_final(int rule, int state) {
+    return rule == SOME ? state == 2 : state < 3;
+}
+
+/* Anything that is accepted: some routes of an ALL pass, some do not, and a SOME has dead ends. */
+static unsigned any_next(int rule, int states, uint64_t *seed) {
+    if (rule == SOME && draw(seed, 4) == 0) return 0;
+    return 1u << draw(seed, states);
+}
+
+static unsigned next_set(enum tables tables, const struct shape *s, int bead, int rule, int state, int label, uint64_t *seed) {
+    switch (tables) {
+    case MIXED_TABLES: return mixed_next(rule, s->states, state, seed);
+    case LATE_TABLES: return late_next(rule, s->states, state, label);
+    case RUN_IN_TABLES: return run_in_next(bead, rule, state, label);
+    case RACK_TABLES: return rack_next(bead, state, label);
+    default: return any_next(rule, s->states, seed);
+    }
+}
+
+static int is_final(enum tables tables, const struct shape *s, int bead, int rule, int state, uint64_t *seed) {
+    switch (tables) {
+    case MIXED_TABLES: return mixed_final(rule, s->states, state);
+    case LATE_TABLES: return late_final(state);
+    case RUN_IN_TABLES: return run_in_final(bead, rule, state);
+    case RACK_TABLES: return rack_final(rule, state);
+    default: return draw(seed, 4) > 0;
+    }
+}
+
 static size_t write_pattern(const struct shape *s, uint64_t *seed, char *text, size_t room) {
     size_t n = snprintf(text, room, "bead rule state final");
     for (int a = 0; a < s->labels; a++) n += snprintf(text + n, room - n, " label%d", a);
@@ -89,14 +132,9 @@ static size_t write_pattern(const struct shape *s, uint64_t *seed, char *text, s
         /* The first bead has to reach far from step 0, or nothing holds. */
         enum tables tables = s->tables == LATE_TABLES && bead == 0 ? MIXED_TABLES : s->tables;
         for (int q = 0; q < s->states; q++) {
-            int final = tables == MIXED_TABLES ? mixed_final(rule, s->states, q)
-                        : tables == LATE_TABLES ? late_final(q) : run_in_final(bead, rule, q);
+            int final = is_final(tables, s, bead, rule, q, seed);
             n += snprintf(text + n, room - n, "%d %s %d %d", bead + 1, rule == SOME ? "SOME" : "ALL", q, final);
-            for (int a = 0; a < s->labels; a++) {
-                unsigned next = tables == MIXED_TABLES ? mixed_next(rule, s->states, q, seed)
-                                : tables == LATE_TABLES ? late_next(rule, s->states, q, a) : run_in_next(bead, rule, q, a);
-                n += snprintf(text + n, room - n, " %u", next);
-            }
+            for (int a = 0; a < s->labels; a++) n += snprintf(text + n, room - n, " %u", next_set(tables, s, bead, rule, q, a, seed));
             n += snprintf(text + n, room - n, "\n");
         }
     }
@@ -129,9 +167,29 @@ static int board_links(int v, int *preds, uint64_t *seed) {
     return count;
 }
 
+/* One board: a chain, and a side branch of one step at every tenth, hung on the step before it, which the chain does not go through. Every
+ * second one joins again four steps later. */
+static int rack_links(int v, int *preds) {
+    enum { EVERY = 10, SIDE = 5, JOIN = 9 };
+    int count = 0;
+    if (v % (2 * EVERY) == JOIN) preds[count++] = v - JOIN + SIDE;
+    preds[count++] = v % EVERY == SIDE + 1 ? v - 2 : v - 1;
+    return count;
+}
+
+/* Mostly one label, by times two or none, vent seldom. */
+static unsigned rack_labels(uint64_t *seed) {
+    enum { VENT = 8 };
+    if (draw(seed, 60) == 0) return VENT;
+    if (draw(seed, 6) == 0) return 0;
+    unsigned one = 1u << draw(seed, 3);
+    return draw(seed, 12) == 0 ? one | 1u << draw(seed, 3) : one;
+}
+
 static unsigned label_set(const struct shape *s, uint64_t *seed) {
     if (s->labelling == ALL_LABELS) return (1u << s->labels) - 1;
     if (s->labelling == NO_LABELS) return 0;
+    if (s->labelling == RACK_LABELS) return rack_labels(seed);
     if (s->labelling == SOME_LABELS) return 1u << draw(seed, s->labels) | 1u << draw(seed, s->labels) | 1u << draw(seed, s->labels);
     /* Vac and hot often, no label by times, vent seldom. */
     if (draw(seed, 60) == 0) return 4;
@@ -148,8 +206,9 @@ static size_t write_log(const struct shape *s, uint64_t *seed, char *text, size_
         if (s->kind == RANDOM_LINKS) count = random_links(v, count, preds, seed);
         if (s->kind == NEAR_LINKS) count = near_links(v, count, preds);
         if (s->kind == BOARD_LINKS) count = board_links(v, preds, seed);
+        if (s->kind == RACK_LINKS) count = rack_links(v, preds);
         left -= count;
-        n += snprintf(text + n, room - n, "%d %d %u ", v, v % 3, label_set(s, seed));
+        n += snprintf(text + n, room - n, "%d %d %u ", v, s->kind == RACK_LINKS ? 1 : v % 3, label_set(s, seed));
         for (int i = 0; i < count; i++) n += snprintf(text + n, room - n, i ? ",%d" : "%d", preds[i]);
         n += snprintf(text + n, room - n, "\n");
     }
@@ -166,9 +225,14 @@ void make_shape(int index, struct input *input) {
     write_texts(&shapes[index], 2838 + index, input);
 }
 
-/* The costliest shape, at 64, 128, .., 1,024 steps. */
-void make_sweep(int index, struct input *input) {
-    struct shape s = shapes[3];
+const char *shape_name(int index) {
+    return shapes[index].name;
+}
+
+/* The costliest shape, at 64, 128, .., 1,024 steps; or one SOME bead, at as many. */
+void make_sweep(int some_alone, int index, struct input *input) {
+    static const struct shape some = {"", 0, 0, 16, 1, 16, SOME, NEAR_LINKS, SOME_LABELS, MIXED_TABLES};
+    struct shape s = some_alone ? some : shapes[3];
     char name[40];
     s.steps = 64 << index;
     s.links = 4 * s.steps;
@@ -183,6 +247,17 @@ void make_random(uint64_t seed, struct input *input) {
     for (int i = 0; i < 8; i++) draw(&x, 2);
     struct shape s = {"random", 1 + draw(&x, 20), 0, 1 + draw(&x, 4), 1 + draw(&x, 8), 2 + draw(&x, 4), 1 + draw(&x, 2),
                       draw(&x, 3), draw(&x, 4), draw(&x, 2)};
+    s.links = s.steps * (1 + draw(&x, 3));
+    if (s.labelling == RUN_IN_LABELS) s.labels = 3;
+    write_texts(&s, x, input);
+}
+
+/* A longer one, with any tables: more starting steps than go together in a pass. */
+void make_long(uint64_t seed, struct input *input) {
+    uint64_t x = seed * 0x9e3779b97f4a7c15u | 1;
+    for (int i = 0; i < 8; i++) draw(&x, 2);
+    struct shape s = {"random, long", 100 + draw(&x, 200), 0, 1 + draw(&x, 16), 1 + draw(&x, 8), 1 + draw(&x, 16), 1 + draw(&x, 2),
+                      draw(&x, 4), draw(&x, 2) ? SOME_LABELS : RUN_IN_LABELS, ANY_TABLES};
     s.links = s.steps * (1 + draw(&x, 3));
     if (s.labelling == RUN_IN_LABELS) s.labels = 3;
     write_texts(&s, x, input);

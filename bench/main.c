@@ -1,5 +1,5 @@
 /* The benchmark: the library against the same jobs written in C. First all answers and buffers are compared, then times and stacks are
- * measured and printed with the ratios library/(a) and library/(b).
+ * measured and printed with the library's ratios to the other makers.
  *
  * `bench` does all. `bench SHAPE JOB WHO` makes one call only, for bench/count. */
 #include "bench.h"
@@ -9,17 +9,18 @@
 #include <stdlib.h>
 #include <string.h>
 
-/* The library; RR-2838's procedure (a) and its tuned form (a'); the library's algorithm, the plain readers and writers (b). */
-enum { LIBRARY, PAPER, TUNED, SAME, MAKERS };
-static const char *const makers[MAKERS] = {"library", "(a)", "(a')", "(b)"};
+/* The library; RR-2838's procedure (a) and its tuned form (a'); the library's algorithm, the plain readers and writers (b); the judge for
+ * speed alone (c). */
+enum { LIBRARY, PAPER, TUNED, SAME, FASTEST, MAKERS };
+static const char *const makers[MAKERS] = {"library", "(a)", "(a')", "(b)", "(c)"};
 enum { READ_PATTERN, READ_LOG, JUDGE, WRITE_PATTERN, WRITE_LOG, JOBS };
 static const char *const jobs[JOBS] = {"read pattern", "read log", "judge", "write pattern", "write log"};
 
-static pattern_reader *const pattern_readers[MAKERS] = {runin_read_pattern, 0, 0, plain_read_pattern};
-static log_reader *const log_readers[MAKERS] = {runin_read_log, 0, 0, plain_read_log};
-static judge *const judges[MAKERS] = {runin_judge, rr2838_judge, rr2838_tuned_judge, same_judge};
-static pattern_writer *const pattern_writers[MAKERS] = {runin_write_pattern, 0, 0, plain_write_pattern};
-static log_writer *const log_writers[MAKERS] = {runin_write_log, 0, 0, plain_write_log};
+static pattern_reader *const pattern_readers[MAKERS] = {runin_read_pattern, 0, 0, plain_read_pattern, 0};
+static log_reader *const log_readers[MAKERS] = {runin_read_log, 0, 0, plain_read_log, 0};
+static judge *const judges[MAKERS] = {runin_judge, rr2838_judge, rr2838_tuned_judge, same_judge, fastest_judge};
+static pattern_writer *const pattern_writers[MAKERS] = {runin_write_pattern, 0, 0, plain_write_pattern, 0};
+static log_writer *const log_writers[MAKERS] = {runin_write_log, 0, 0, plain_write_log, 0};
 
 /* Buffers with some numbers past their documented lengths, which no call may touch. Any text that is written fits. */
 enum { PAST = 16, MOST_TEXT = 65536 };
@@ -88,8 +89,8 @@ static void compare_job(int job) {
     for (int maker = 0; maker < MAKERS; maker++) {
         if (has(maker, job)) call(maker, job);
     }
-    /* The paper has no readers or writers: its judges get what the plain ones read. */
-    if (job != JUDGE) rooms[PAPER] = rooms[TUNED] = rooms[SAME];
+    /* Judges without readers and writers of their own get what the plain ones read. */
+    if (job != JUDGE) rooms[PAPER] = rooms[TUNED] = rooms[FASTEST] = rooms[SAME];
     must_be_equal(job);
 }
 
@@ -145,6 +146,13 @@ static void compare_random(int count) {
     }
 }
 
+static void compare_long(int count) {
+    for (int i = 1; i <= count; i++) {
+        make_long(i, &input);
+        compare_input();
+    }
+}
+
 /* Measuring. */
 
 static int stack_maker, stack_job;
@@ -157,48 +165,44 @@ static size_t stack_of(int maker, int job) {
     return peak_stack(stack_call) - peak_stack(no_call);
 }
 
+/* How many calls of a maker take a millisecond or more. They differ much between makers. */
+static int batch_of(int maker, int job) {
+    for (int batch = 1;; batch *= 2) {
+        double begin = cpu_seconds();
+        for (int i = 0; i < batch; i++) call(maker, job);
+        if (batch >= 4096 || cpu_seconds() - begin >= 1e-3) return batch;
+    }
+}
+
 /* The median time of a call in seconds, for each maker: rounds in turn, so that a disturbance meets all of them. */
 static void time_job(int job, double budget, double *seconds) {
     enum { MOST = 25, FEWEST = 5 };
-    double samples[MAKERS][MOST], begin = cpu_seconds();
-    int batch = 1, round = 0;
-    call(LIBRARY, job);
-    while (batch < 4096 && (cpu_seconds() - begin) * batch < 1e-3) batch *= 2;
-    for (begin = cpu_seconds(); round < MOST && (round < FEWEST || cpu_seconds() - begin < budget); round++) {
+    double samples[MAKERS][MOST];
+    int batches[MAKERS], round = 0;
+    for (int maker = 0; maker < MAKERS; maker++) batches[maker] = has(maker, job) ? batch_of(maker, job) : 0;
+    for (double begin = cpu_seconds(); round < MOST && (round < FEWEST || cpu_seconds() - begin < budget); round++) {
         for (int maker = 0; maker < MAKERS; maker++) {
             if (!has(maker, job)) continue;
             double from = cpu_seconds();
-            for (int i = 0; i < batch; i++) call(maker, job);
-            samples[maker][round] = (cpu_seconds() - from) / batch;
+            for (int i = 0; i < batches[maker]; i++) call(maker, job);
+            samples[maker][round] = (cpu_seconds() - from) / batches[maker];
         }
     }
     for (int maker = 0; maker < MAKERS; maker++) seconds[maker] = has(maker, job) ? median(samples[maker], round) : 0;
 }
 
-static double worst[JOBS], logs[MAKERS];
+/* What the aims are about: times of a call on each shape and, judging, in each sweep. */
+static double shape_times[SHAPES][JOBS][MAKERS], sweep_times[2][SWEEP][MAKERS];
 static size_t most_stack[JOBS];
 
 static void table_head(void) {
     printf("%-24s %-13s", "shape", "job");
     for (int maker = 0; maker < MAKERS; maker++) printf(" %8s us", makers[maker]);
     for (int maker = 1; maker < MAKERS; maker++) printf(" lib/%-4s", makers[maker]);
-    printf(" stack: library, (a), (b)\n");
+    printf(" stack: library, (a), (b), (c)\n");
 }
 
-/* A line of the table; the ratios of the library to the others. */
-static void measure(int job, double budget, double *ratios) {
-    double t[MAKERS];
-    time_job(job, budget, t);
-    printf("%-24s %-13s", input.name, jobs[job]);
-    for (int maker = 0; maker < MAKERS; maker++) {
-        if (has(maker, job)) printf(" %11.1f", t[maker] * 1e6);
-        else printf(" %11s", "-");
-    }
-    for (int maker = 1; maker < MAKERS; maker++) {
-        ratios[maker] = t[LIBRARY] / t[maker];
-        if (has(maker, job)) printf(" %8.2f", ratios[maker]);
-        else printf(" %8s", "-");
-    }
+static void print_stacks(int job) {
     for (int maker = 0; maker < MAKERS; maker++) {
         if (maker == TUNED) continue;
         if (!has(maker, job)) {
@@ -209,13 +213,23 @@ static void measure(int job, double budget, double *ratios) {
         printf(" %6zu", stack);
         if (maker == LIBRARY && stack > most_stack[job]) most_stack[job] = stack;
     }
-    printf("\n");
-    fflush(stdout);
-    if (ratios[SAME] > worst[job]) worst[job] = ratios[SAME];
 }
 
-static const char *met(int yes) {
-    return yes ? "met" : "missed";
+/* A line of the table. */
+static void measure(int job, double budget, double *t) {
+    time_job(job, budget, t);
+    printf("%-24s %-13s", input.name, jobs[job]);
+    for (int maker = 0; maker < MAKERS; maker++) {
+        if (has(maker, job)) printf(" %11.1f", t[maker] * 1e6);
+        else printf(" %11s", "-");
+    }
+    for (int maker = 1; maker < MAKERS; maker++) {
+        if (has(maker, job)) printf(" %8.2f", t[LIBRARY] / t[maker]);
+        else printf(" %8s", "-");
+    }
+    print_stacks(job);
+    printf("\n");
+    fflush(stdout);
 }
 
 static void measure_shapes(void) {
@@ -223,22 +237,17 @@ static void measure_shapes(void) {
     for (int i = 0; i < SHAPES; i++) {
         make_shape(i, &input);
         compare_input();
-        for (int job = READ_PATTERN; job <= JUDGE; job++) {
-            double ratios[MAKERS];
-            measure(job, job == JUDGE ? 4 : 0.4, ratios);
-            for (int maker = 1; maker < MAKERS && job == JUDGE; maker++) logs[maker] -= log(ratios[maker]) / SHAPES;
-        }
+        for (int job = READ_PATTERN; job <= JUDGE; job++) measure(job, job == JUDGE ? 4 : 0.4, shape_times[i][job]);
     }
 }
 
-static void measure_sweep(void) {
-    printf("\nThe sweep: late pivots with ALL first, four links a step\n");
+static void measure_sweep(int some_alone) {
+    printf("\n%s, four links a step\n", some_alone ? "The second sweep: one SOME bead of 16 states" : "The sweep: late pivots with ALL first");
     table_head();
     for (int i = 0; i < SWEEP; i++) {
-        make_sweep(i, &input);
+        make_sweep(some_alone, i, &input);
         compare_input();
-        double ratios[MAKERS];
-        measure(JUDGE, 2, ratios);
+        measure(JUDGE, some_alone ? 1 : 2, sweep_times[some_alone][i]);
     }
 }
 
@@ -252,21 +261,70 @@ static void measure_writes(void) {
            RUNIN_COUNT(b->answers[WRITE_LOG]));
     table_head();
     for (int job = WRITE_PATTERN; job <= WRITE_LOG; job++) {
-        double ratios[MAKERS];
-        measure(job, 0.4, ratios);
+        double t[MAKERS];
+        measure(job, 0.4, t);
     }
+}
+
+/* Aims. A missed one is printed, no more. */
+
+static const char *met(int yes) {
+    return yes ? "met" : "missed";
+}
+
+static double ratio(int shape, int job, int maker) {
+    return shape_times[shape][job][LIBRARY] / shape_times[shape][job][maker];
+}
+
+/* The geometric mean of the library's ratios to a maker, judging, over some shapes that follow each other. */
+static double mean_ratio(int first, int count, int maker) {
+    double sum = 0;
+    for (int i = first; i < first + count; i++) sum += log(ratio(i, JUDGE, maker));
+    return exp(sum / count);
+}
+
+static void aim_everywhere(int job, int maker, double most) {
+    int worst = 0;
+    for (int i = 1; i < SHAPES; i++) {
+        if (ratio(i, job, maker) > ratio(worst, job, maker)) worst = i;
+    }
+    double r = ratio(worst, job, maker);
+    printf("%-13s at most %.1f times %s on every shape: worst %.2f (%s), %s\n", jobs[job], most, makers[maker], r, shape_name(worst), met(r <= most));
+}
+
+static void aim_on_shape(int shape, double most) {
+    double r = ratio(shape, JUDGE, FASTEST);
+    printf("%-13s at most %.1f times (c) on the shape \"%s\": %.2f, %s\n", jobs[JUDGE], most, shape_name(shape), r, met(r <= most));
+}
+
+static void aim_twice_the_steps(int some_alone, double most) {
+    const double(*t)[MAKERS] = sweep_times[some_alone];
+    double r = t[SWEEP - 1][LIBRARY] / t[SWEEP - 2][LIBRARY];
+    printf("%-13s %d steps at most %.1f times as long as %d%s: %.2f, %s (", jobs[JUDGE], 64 << (SWEEP - 1), most, 64 << (SWEEP - 2),
+           some_alone ? ", SOME alone" : "", r, met(r <= most));
+    for (int maker = 1; maker < MAKERS; maker++) printf("%s%s %.2f", maker > 1 ? ", " : "", makers[maker], t[SWEEP - 1][maker] / t[SWEEP - 2][maker]);
+    printf(")\n");
 }
 
 static void print_aims(void) {
     printf("\nAims\n");
-    for (int job = READ_PATTERN; job <= JUDGE; job++) {
-        printf("%-13s at most 1.30 times (b): worst %.2f, %s\n", jobs[job], worst[job], met(worst[job] <= 1.3));
-    }
-    double faster = exp(logs[PAPER]);
-    printf("%-13s at least 4 times faster than (a), geometric mean over the shapes: %.2f times, %s (than (a'): %.2f times)\n", jobs[JUDGE],
-           faster, met(faster >= 4), exp(logs[TUNED]));
+    aim_everywhere(READ_PATTERN, SAME, 1.1);
+    aim_everywhere(READ_LOG, SAME, 1.3);
+    aim_everywhere(JUDGE, TUNED, 1);
+    aim_everywhere(JUDGE, SAME, 1);
+    aim_everywhere(JUDGE, FASTEST, 20);
+    double mean = mean_ratio(0, SHAPES, FASTEST);
+    printf("%-13s at most 10.0 times (c), geometric mean over the shapes: %.2f, %s\n", jobs[JUDGE], mean, met(mean <= 10));
+    aim_on_shape(TYPICAL, 5);
+    aim_on_shape(RACK, 5);
+    printf("%-13s (no aim) times (c) on the shape \"%s\": %.2f\n", jobs[JUDGE], shape_name(LONG_TYPICAL), ratio(LONG_TYPICAL, JUDGE, FASTEST));
+    double faster = 1 / mean_ratio(FULL_SIZE, FULL_SIZES, PAPER);
+    printf("%-13s at least 12 times faster than (a), geometric mean over the full-size shapes: %.2f times, %s (than (a'): %.2f times)\n",
+           jobs[JUDGE], faster, met(faster >= 12), 1 / mean_ratio(FULL_SIZE, FULL_SIZES, TUNED));
+    aim_twice_the_steps(0, 4.2);
+    aim_twice_the_steps(1, 2.2);
     for (int job = 0; job < JOBS; job++) {
-        printf("%-13s under 65536 bytes of stack: at most %zu, %s\n", jobs[job], most_stack[job], met(most_stack[job] < 65536));
+        printf("%-13s under 49152 bytes of stack: at most %zu, %s\n", jobs[job], most_stack[job], met(most_stack[job] < 49152));
     }
 }
 
@@ -283,8 +341,9 @@ static int once(int shape, int job, int maker) {
 
 int main(int argc, char **argv) {
     if (argc == 4) return once(atoi(argv[1]), atoi(argv[2]), atoi(argv[3]));
-    int random = 4000;
+    int random = 4000, random_long = 300;
     compare_random(random);
+    compare_long(random_long);
     for (int i = 0; i < SHAPES; i++) {
         make_shape(i, &input);
         compare_input();
@@ -295,14 +354,15 @@ int main(int argc, char **argv) {
         printf("%-24s %5zu bytes of pattern, %5zu of log; the whole pattern holds at %u of %u steps\n", input.name, input.pattern_len,
                input.log_len, RUNIN_COUNT(rooms[LIBRARY].answers[JUDGE]), rooms[LIBRARY].log[0]);
     }
-    printf("Equal in all answers and buffers: %ld calls, on %d random inputs and all shapes; the whole pattern held at %ld steps\nAnswers:", compared,
-           random, held);
+    printf("Equal in all answers and buffers: %ld calls, on %d random inputs, %d long ones and all shapes; the whole pattern held at %ld steps\n"
+           "Answers:", compared, random, random_long, held);
     for (int number = 0; number < 32; number++) {
         if (by_number[number]) printf("%s %ld of %d", number ? "," : "", by_number[number], number);
     }
     printf("; %ld with a byte\n\n", placed);
     measure_shapes();
-    measure_sweep();
+    measure_sweep(0);
+    measure_sweep(1);
     measure_writes();
     print_aims();
     return 0;

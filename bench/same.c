@@ -1,54 +1,120 @@
-/* The judge by the library's algorithm, written by hand in C: the step table of a bead, the phase of the prefixes by forward passes from the
- * steps at which the earlier beads hold, and the walk back to the pivots by backward passes from a target, in the same order, with the
- * same work skipped. */
+/* The judge by the library's algorithm, written by hand in C. Sixteen forward passes go at once, a lane each: `work` has for each step 16
+ * numbers, one a state, the set of the lanes that are in that state there. The first phase finds bead by bead the steps at which the beads up
+ * to it hold, the walk back the pivots, both by passes from starting steps, in the library's order and with the same work skipped. */
 #include "bench.h"
 
 #include <string.h>
 
-/* What is at hand: the step table of a bead, and the flags of a target. */
+enum { LANES = 16 };
+
+/* The set that has one state, one label or one lane only. It is a table, and the loops that use it have no branches, so that the compiler
+ * looks at all sixteen at once. */
+static const uint16_t values[16] = {1, 2, 4, 8, 16, 32, 64, 128, 256, 512, 1024, 2048, 4096, 8192, 16384, 32768};
+
+/* All sixteen bits if i is in the set, else none. */
+static inline uint16_t all_if(uint16_t set, unsigned i) {
+    return -((set & values[i]) == values[i]);
+}
+
+/* What is at hand. `hopes` has for each bead the states from which an accepting one can be reached, `last` for each step the last one it has
+ * a link to. A pass begins with the lanes of `seeds` and leaves in `found` for each step those that reach it. */
 struct judging {
     const uint16_t *pattern, *log;
-    uint16_t *table;
+    uint16_t *work;
     unsigned beads, steps;
-    unsigned bead, target;
-    uint16_t flags[MOST_STEPS], prefixes[MOST_STEPS], pivots[MOST_BEADS + 1][MOST_STEPS];
+    uint16_t hopes[MOST_BEADS], last[MOST_STEPS], seeds[MOST_STEPS], found[MOST_STEPS];
+    uint16_t prefixes[MOST_STEPS], pivots[MOST_BEADS + 1][MOST_STEPS];
 };
 
-/* 16 numbers a step: for each state the set of states that entering the step leads to. */
-static void fill_table(struct judging *j, unsigned bead) {
-    for (unsigned x = 0; x < j->steps; x++) {
-        unsigned labels = j->log[LABELS + x];
-        for (unsigned q = 0; q < MOST_STATES; q++) {
-            const uint16_t *next = j->pattern + NEXTS + 256 * bead + 16 * q;
-            uint16_t all = 0;
-            if (labels == 0) all = 1u << q;
-            else for (unsigned a = 0; a < MOST_LABELS; a++) {
-                if (labels >> a & 1) all |= next[a];
-            }
-            j->table[16 * x + q] = all;
-        }
+/* The starting steps of a pass lie from `first` on and below `until`; there are none if these are equal. The next ones lie from `to` on. */
+struct starts {
+    unsigned first, until, to;
+};
+
+/* Upwards, so that the last step stays. */
+static void last_links(struct judging *j) {
+    const uint16_t *log = j->log;
+    for (unsigned v = 0; v < j->steps; v++) {
+        for (unsigned i = log[BEGINS + v]; i < log[BEGINS + v + 1]; i++) j->last[log[LINKS + i]] = v;
     }
 }
 
-/* The states from which entering a step leads into the set; by the step's part of the table. */
-static unsigned pull(const uint16_t *row, unsigned set) {
-    unsigned all = 0;
+/* The accepting states, grown by those that lead into the set until nothing is added. */
+static uint16_t hopeful(const uint16_t *pattern, unsigned bead) {
+    uint16_t onwards[MOST_STATES] = {0}, set = pattern[FINALS + bead], before;
     for (unsigned q = 0; q < MOST_STATES; q++) {
-        all |= (unsigned)((row[q] & set) != 0) << q;
+        for (unsigned a = 0; a < MOST_LABELS; a++) onwards[q] |= pattern[NEXTS + 256 * bead + 16 * q + a];
     }
+    do {
+        before = set;
+        for (unsigned q = 0; q < MOST_STATES; q++) set |= onwards[q] & before ? values[q] : 0;
+    } while (set != before);
+    return set;
+}
+
+/* Adds the lanes of the predecessors of x, state by state. What `work` has before the first starting step is of another pass. */
+static inline void gather(const struct judging *j, unsigned first, unsigned x, uint16_t *restrict here) {
+    const uint16_t *log = j->log;
+    for (unsigned i = log[BEGINS + x], end = log[BEGINS + x + 1]; i < end; i++) {
+        unsigned w = log[LINKS + i];
+        if (w < first) continue;
+        const uint16_t *restrict there = j->work + 16 * w;
+        for (unsigned q = 0; q < MOST_STATES; q++) here[q] |= there[q];
+    }
+}
+
+/* The states that entering a step with these labels leads to; by the next sets of the state left. */
+static inline uint16_t enter(const uint16_t *restrict next, uint16_t labels) {
+    uint16_t all = 0;
+    for (unsigned a = 0; a < MOST_LABELS; a++) all |= next[a] & all_if(labels, a);
     return all;
 }
 
-/* For each step up to the target the states from which some reading of some route to the target ends in the goal. */
-static void backward_pass(const struct judging *j, unsigned target, uint16_t goal, uint16_t *restrict states) {
-    const uint16_t *restrict log = j->log, *restrict table = j->table;
-    memset(states, 0, MOST_STEPS * sizeof *states);
-    states[target] = goal;
-    for (unsigned x = target; x > 0; x--) {
-        unsigned here = states[x];
-        if (here == 0) continue;
-        unsigned before = log[LABELS + x] ? pull(table + 16 * x, here) : here, end = log[BEGINS + x + 1];
-        for (unsigned i = log[BEGINS + x]; i < end; i++) states[log[LINKS + i]] |= before;
+/* Adds the lanes to each state of the set. */
+static inline void spread(uint16_t set, uint16_t lanes, uint16_t *restrict to) {
+    for (unsigned q = 0; q < MOST_STATES; q++) to[q] |= lanes & all_if(set, q);
+}
+
+/* The lanes that are in some state of the set; by the lanes of a step. */
+static inline uint16_t lanes_with(const uint16_t *restrict here, uint16_t set) {
+    uint16_t all = 0;
+    for (unsigned q = 0; q < MOST_STATES; q++) all |= here[q] & all_if(set, q);
+    return all;
+}
+
+/* Puts down at x the lanes that arrive there and those that begin there. Without labels every lane stays in its state; with them nothing is
+ * looked up for a state without lanes. Most steps begin no lane, and writing one number of a row just before all are read takes time. */
+static inline void turn(const struct judging *j, unsigned bead, unsigned first, unsigned x, uint16_t begin) {
+    uint16_t before[MOST_STATES] = {0}, after[MOST_STATES] = {0}, *here = before;
+    uint16_t labels = j->log[LABELS + x];
+    gather(j, first, x, before);
+    if (labels) {
+        const uint16_t *nexts = j->pattern + NEXTS + 256 * bead;
+        for (unsigned q = 0; q < MOST_STATES; q++) {
+            if (before[q]) spread(enter(nexts + 16 * q, labels), before[q], after);
+        }
+        here = after;
+    }
+    if (begin) here[0] |= begin;
+    memcpy(j->work + 16 * x, here, sizeof after);
+}
+
+/* The lanes with which the bead holds at a step; by the lanes there. ALL takes away those that are in another state too. */
+static inline uint16_t reaching(const struct judging *j, unsigned bead, const uint16_t *here) {
+    uint16_t final = j->pattern[FINALS + bead], accepting = lanes_with(here, final);
+    if (j->pattern[RULES + bead] == ALL) return accepting & ~lanes_with(here, ~final);
+    return accepting;
+}
+
+/* Finds for each step the lanes that reach it. Past `reach` no step has a link from one with a lane in a hopeful state: there the pass ends. */
+static void pass(struct judging *j, unsigned bead, struct starts starts) {
+    memset(j->found, 0, sizeof j->found);
+    if (starts.first == starts.until) return;
+    for (unsigned x = starts.first, reach = starts.until - 1; x <= reach; x++) {
+        const uint16_t *here = j->work + 16 * x;
+        turn(j, bead, starts.first, x, x < starts.until ? j->seeds[x] : 0);
+        j->found[x] = reaching(j, bead, here);
+        if (lanes_with(here, j->hopes[bead]) && j->last[x] > reach) reach = j->last[x];
     }
 }
 
@@ -57,79 +123,36 @@ static int prefix_at(const struct judging *j, unsigned bead, unsigned u) {
     return bead == 0 ? u == 0 : j->prefixes[u] >> (bead - 1) & 1;
 }
 
-/* Flags the steps, up to the target, that serve as the pivot before it. */
-static void make_flags(struct judging *j, unsigned bead, unsigned target) {
-    uint16_t states[MOST_STEPS], others[MOST_STEPS];
-    unsigned final = j->pattern[FINALS + bead], count = j->pattern[STATE_COUNTS + bead];
-    backward_pass(j, target, final, states);
-    if (j->pattern[RULES + bead] == ALL) {
-        backward_pass(j, target, ((1u << count) - 1) & ~final, others);
-        for (unsigned u = 0; u <= target; u++) j->flags[u] = prefix_at(j, bead, u) && (states[u] & 1) && !(others[u] & 1);
-    } else {
-        for (unsigned u = 0; u <= target; u++) j->flags[u] = prefix_at(j, bead, u) && (states[u] & 1);
+/* The starting steps from `from` on: the next sixteen, a lane each, if `advance` is 1, and all of them in lane 0 if it is 0. */
+static struct starts choose(struct judging *j, unsigned bead, unsigned from, unsigned advance) {
+    struct starts starts = {from, from, from};
+    for (unsigned lane = 0; starts.to < j->steps && lane < LANES;) {
+        unsigned u = starts.to++;
+        j->seeds[u] = 0;
+        if (!prefix_at(j, bead, u)) continue;
+        j->seeds[u] = values[lane];
+        lane += advance;
+        if (starts.until == from) starts.first = u;
+        starts.until = starts.to;
     }
+    return starts;
 }
 
-/* Makes the table only for another bead than before, the passes only for another bead or target. */
-static void serving(struct judging *j, unsigned bead, unsigned target) {
-    if (j->bead == bead && j->target == target) return;
-    if (j->bead != bead) fill_table(j, bead);
-    make_flags(j, bead, target);
-    j->bead = bead;
-    j->target = target;
-}
-
-static unsigned first_flag(const struct judging *j, unsigned last) {
-    unsigned u = 0;
-    while (u <= last && !j->flags[u]) u++;
-    return u;
-}
-
-/* The states that entering a step reaches from the set; by the step's part of the table. */
-static unsigned entered(const uint16_t *row, unsigned set) {
-    unsigned all = 0;
-    for (unsigned q = 0; q < MOST_STATES; q++) {
-        if (set >> q & 1) all |= row[q];
-    }
-    return all;
-}
-
-/* For each step from u on the states that some reading of some route from u reaches. */
-static void forward_pass(const struct judging *j, unsigned u, uint16_t *restrict states) {
-    const uint16_t *restrict log = j->log, *restrict table = j->table;
-    memset(states, 0, MOST_STEPS * sizeof *states);
-    states[u] = 1;
-    for (unsigned x = u + 1; x < j->steps; x++) {
-        unsigned before = 0, end = log[BEGINS + x + 1];
-        for (unsigned i = log[BEGINS + x]; i < end; i++) before |= states[log[LINKS + i]];
-        states[x] = before && log[LABELS + x] ? entered(table + 16 * x, before) : before;
-    }
-}
-
-/* Does the bead hold on a step with this set in the forward pass? */
-static int reaches(const struct judging *j, unsigned bead, unsigned set) {
-    unsigned final = j->pattern[FINALS + bead];
-    if (j->pattern[RULES + bead] == ALL) return (set & final) && !(set & ~final);
-    return (set & final) != 0;
-}
-
-/* Has every step from u on the bead already? */
+/* Has every step from u on the bead already? Late steps lack it longest. */
 static int all_marked(const struct judging *j, unsigned bead, unsigned u) {
     unsigned v = j->steps;
     while (u < v && j->prefixes[v - 1] >> bead & 1) v--;
     return v <= u;
 }
 
+/* The first phase. SOME asks for some starting step and not for which, so all go in one lane, in one pass; ALL asks each by itself. */
 static void mark_prefixes(struct judging *j) {
-    uint16_t states[MOST_STEPS];
     for (unsigned k = 0; k < j->beads; k++) {
-        fill_table(j, k);
-        for (unsigned u = 0; u < j->steps; u++) {
-            if (!prefix_at(j, k, u) || all_marked(j, k, u)) continue;
-            forward_pass(j, u, states);
-            for (unsigned v = u; v < j->steps; v++) {
-                if (reaches(j, k, states[v])) j->prefixes[v] |= 1u << k;
-            }
+        for (unsigned from = 0; from < j->steps && !all_marked(j, k, from);) {
+            struct starts starts = choose(j, k, from, j->pattern[RULES + k] == ALL);
+            pass(j, k, starts);
+            for (unsigned v = from; v < j->steps; v++) j->prefixes[v] |= (j->found[v] != 0) << k;
+            from = starts.to;
         }
     }
 }
@@ -138,14 +161,41 @@ static int is_whole(const struct judging *j, unsigned v) {
     return j->prefixes[v] >> (j->beads - 1) & 1;
 }
 
-static void walk_back(struct judging *j) {
+/* A step at which the whole pattern holds searches for each pivot but the last, which is itself: its places have the step count, no step. */
+static void begin_walk(struct judging *j) {
+    for (unsigned k = 0; k < j->beads; k++) {
+        for (unsigned v = 0; v < j->steps; v++) j->pivots[k][v] = is_whole(j, v) ? j->steps : 0;
+    }
     for (unsigned v = 0; v < j->steps; v++) j->pivots[j->beads][v] = v;
+}
+
+/* Does no step from `from` on search any more? Late steps search longest. */
+static int none_search(const struct judging *j, unsigned k, unsigned from) {
+    unsigned v = j->steps;
+    while (from < v && j->pivots[k][v - 1] != j->steps) v--;
+    return v <= from;
+}
+
+/* A round: each step that still searches picks the smallest candidate, of those from `from` on and below `to`, that reaches its target. */
+static void pick(struct judging *j, unsigned k, unsigned from, unsigned to) {
+    for (unsigned v = from; v < j->steps; v++) {
+        if (j->pivots[k][v] != j->steps) continue;
+        unsigned lanes = j->found[j->pivots[k + 1][v]], u = from;
+        if (lanes == 0) continue;
+        while (u < to && !(j->seeds[u] & lanes)) u++;
+        j->pivots[k][v] = u;
+    }
+}
+
+/* Beads downwards, in each the candidates upwards, a round for every sixteen. */
+static void walk_back(struct judging *j) {
+    begin_walk(j);
     for (unsigned k = j->beads; k-- > 0;) {
-        for (unsigned v = j->steps; v-- > 0;) {
-            if (!is_whole(j, v)) continue;
-            unsigned p = j->pivots[k + 1][v];
-            serving(j, k, p);
-            j->pivots[k][v] = first_flag(j, p);
+        for (unsigned from = 0; from < j->steps && !none_search(j, k, from);) {
+            struct starts starts = choose(j, k, from, 1);
+            pass(j, k, starts);
+            pick(j, k, from, starts.to);
+            from = starts.to;
         }
     }
 }
@@ -167,7 +217,9 @@ uint64_t same_judge(const uint16_t *pattern, size_t pattern_len, const uint16_t 
                     uint16_t *result, size_t result_len, uint16_t *work, size_t work_len) {
     unsigned number = buffers_refused(pattern, pattern_len, log, log_len, result_len, work_len);
     if (number) return answer(number, 0, 0);
-    struct judging j = {.pattern = pattern, .log = log, .table = work, .beads = pattern[1], .steps = log[0], .bead = MOST_BEADS};
+    struct judging j = {.pattern = pattern, .log = log, .work = work, .beads = pattern[1], .steps = log[0]};
+    for (unsigned k = 0; k < j.beads; k++) j.hopes[k] = hopeful(pattern, k);
+    last_links(&j);
     mark_prefixes(&j);
     walk_back(&j);
     unsigned count = write_rows(&j, result);
