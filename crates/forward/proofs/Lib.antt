@@ -1,4 +1,4 @@
+pub mod Cases
+pub mod Turns
 pub mod Agrees
-pub mod GatherLaws
-pub mod EnterLaws
-pub mod PassLaws
+pub mod Hope

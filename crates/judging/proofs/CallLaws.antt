@@ -50,8 +50,8 @@ module _ (pattern log result work : List ℕ) (a : 7170 ≤ length log) (b : 207
 pub part-counts : (n : ℕ) (l : List ℕ) → n ≤ length l → n ≡ length (take n l)
 part-counts n l h = sym (length-take-le n l h)
 
-pub part-long : (n : ℕ) (l : List ℕ) → n ≤ length l → n ≤ length (take n l)
-part-long n l h = let e = length-take-le n l h in omega arith
+pub part-long : (n : ℕ) (l : List ℕ) → n ≤ length l → length (take n l) ≡ n
+part-long n l h = length-take-le n l h
 
 pub part-some : (l : List ℕ) → 2074 ≤ length l → 0 < length (take 2074 l)
 part-some l h = let e = length-take-le 2074 l h in omega arith

@@ -8,7 +8,7 @@ use answer::Answer;
 
 // Tests 6 and 7, and the judging, on buffers of their documented lengths.
 fn judge_fit(pattern: &[u16], log: &[u16], result: &mut [u16], work: &mut [u16]) -> Answer
-    requires { ⌜ (0 < length (now pattern)) × (10240 ≤ length (now result)) × (16384 ≤ length (now work)) ⌝ }
+    requires { ⌜ (0 < length (now pattern)) × (10240 ≤ length (now result)) × (length (now work) ≡ 16384) ⌝ }
     ensures { λ r. ⌜ r ≡ fitAnswer (now (pattern .entry)) (now (log .entry)) ⌝ }
     ensures { λ _. ⌜ now (result .exit) ≡ fitResult (now (pattern .entry)) (now (log .entry)) (now (result .entry)) ⌝ }
     ensures { λ _. ⌜ now (work .exit) ≡ fitWork (now (pattern .entry)) (now (log .entry)) (now (work .entry)) ⌝ }

@@ -5,6 +5,7 @@ use mathlib.Core.Bool.{Bool, true, false}
 use mathlib.Core.List.{List, [], _∷_, _++_, append-assoc, append-nil}
 use Prim.Native.Nat.{ℕ, zero, suc, _+_, _-_, _≤_, _<_}
 use native.Mathlib.Omega.{arith}
+use native.Mathlib.Nat.{le-refl}
 use native.Mathlib.Numerals.{add-one}
 use borrow.Author.Tests.{eqb-true, eqb-false}
 use lib.Dec.{eqb}
@@ -94,6 +95,13 @@ unfolding zeroed
 zeroed-end a i to l now h k e = let z : i ≡ to = omega arith in rw z at e
 
 pub ruleset clear-kit = (zeroed-none, zeroed-more, zeroed-end)
+
+-- from the front to the end
+pub all-zeroed : (l m : List ℕ) → m ≡ take 0 l ++ (replicate (length l - 0) 0 ++ drop (length l) l) → m ≡ replicate (length l) 0
+all-zeroed l m e =
+    let n : length l - 0 ≡ length l = omega arith in
+    let d : drop (length l) l ≡ [] = drop-of-length-le l (le-refl (length l)) in
+    e ∙ ap₂ (λ (k : ℕ) (r : List ℕ). replicate k 0 ++ r) n d ∙ append-nil (replicate (length l) 0)
 
 -- ---- copied to the front
 

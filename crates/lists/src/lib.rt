@@ -23,6 +23,14 @@ pub fn clear(buffer: &mut [u16], from: usize, to: usize)
     }
 }
 
+// Zeros everywhere.
+pub fn clear_all(buffer: &mut [u16])
+    ensures { λ _. ⌜ now (buffer .exit) ≡ replicate (length (now (buffer .entry))) 0 ⌝ }
+{
+    let n = buffer.len();
+    clear(buffer, 0, n);
+}
+
 // Writes the numbers in front of a buffer; its rest stays.
 pub fn copy(numbers: &[u16], to: &mut [u16])
     requires { ⌜ length (now numbers) ≤ length (now to) ⌝ }

@@ -1,7 +1,7 @@
 -- A bead added to the sets of vertices, vertex by vertex.
 use Prim.Native.Nat.{ℕ, _+_, _-_, _≤_, _<_}
 use mathlib.Core.Path.{_≡_, refl, sym, ap, _∙_}
-use mathlib.Core.Bool.{Bool, true, false, cond, _&&_, _||_, and-true, and-false, or-false}
+use mathlib.Core.Bool.{Bool, true, false, cond, not, _&&_, _||_, and-true, and-false, or-false}
 use mathlib.Core.List.{List}
 use native.Mathlib.Decide.{ℕ-discrete, decLt}
 use native.Mathlib.Omega.{arith}
@@ -12,8 +12,7 @@ use lib.Seq.{getD-set-same, getD-set-other}
 use Rattle.sets.proofs.Truth.{or-none}
 use Rattle.sets.specs.Sets.{member, singleton, union}
 use Rattle.sets.proofs.Laws.{member-union, member-singleton, union-below}
-use Rattle.passes.specs.Passes.{BeadIn}
-use Rattle.marking.specs.Marking.{reachesBy, reachesAt, markedIf, Added, AllMarked}
+use Rattle.marking.specs.Marking.{foundAt, markedIf, Added, AllMarked}
 
 -- ---- one vertex
 
@@ -28,10 +27,9 @@ mark-no prefixes k v b y = rw y refl
 
 pub ruleset mark-kit = (mark-yes, mark-no)
 
-pub marked-at : (pattern states prefixes new : List ℕ) (k v : ℕ) (b : Bool) → b ≡ reachesBy pattern k (getD states v 0) → new ≡ markedIf b k v prefixes
-    → new ≡ markedIf (reachesAt pattern k states v) k v prefixes
-unfolding reachesAt
-marked-at pattern states prefixes new k v b eb e = e ∙ ap (λ (c : Bool). markedIf c k v prefixes) eb
+pub found-is : (found : List ℕ) (v : ℕ) → not (eqb (getD found v 0) 0) ≡ foundAt found v
+unfolding foundAt
+found-is found v = refl
 
 -- ---- the loop over the vertices from u on
 
@@ -69,15 +67,15 @@ added-first f k u old = added-none f k u u old (λ v l r. absurd (omega arith))
 pub added-end : (f : ℕ → Bool) (k u n v : ℕ) (old new : List ℕ) → v ≤ n → n ≤ v → Added f k u v old new → Added f k u n old new
 added-end f k u n v old new h l a = let e : v ≡ n = omega arith in rw e at a
 
-module _ (pattern states : List ℕ) (k u v : ℕ) (old l : List ℕ) (a : Added (reachesAt pattern k states) k u v old l) where
+module _ (found : List ℕ) (k u v : ℕ) (old l : List ℕ) (a : Added (foundAt found) k u v old l) where
   abbrev f : ℕ → Bool
-  f = reachesAt pattern k states
+  f = foundAt found
 
   -- the turn of v
-  pub added-more : (new : List ℕ) → new ≡ markedIf (reachesAt pattern k states v) k v l → BeadIn pattern k → u ≤ v → (n : ℕ) → n ≤ 1024 → v < n
-      → 1024 ≤ length l → Added (reachesAt pattern k states) k u (v + 1) old new
+  pub added-more : (b : Bool) (new : List ℕ) → b ≡ foundAt found v → new ≡ markedIf b k v l → u ≤ v → (n : ℕ) → n ≤ 1024 → v < n → 1024 ≤ length l
+      → Added (foundAt found) k u (v + 1) old new
   unfolding markedIf
-  added-more new e bead up n few low long = rw e (go (f v) refl)
+  added-more b new eb e up n few low long = rw (e, eb) (go (f v) refl)
     where
       inside : v < length l
       inside = omega arith
@@ -92,7 +90,7 @@ module _ (pattern states : List ℕ) (k u v : ℕ) (old l : List ℕ) (a : Added
       after : (j : ℕ) → (member j (getD old v 0) || (eqb j k && (leb u v && (ltb v (v + 1) && f v)))) ≡ (member j (getD old v 0) || (eqb j k && f v))
       after j = rw (le-leb u v up, lt-ltb v (v + 1) (omega arith)) refl
 
-      go : (b : Bool) → f v ≡ b → Added (reachesAt pattern k states) k u (v + 1) old (cond b (set l v (union 16 (getD l v 0) (singleton k))) l)
+      go : (b : Bool) → f v ≡ b → Added (foundAt found) k u (v + 1) old (cond b (set l v (union 16 (getD l v 0) (singleton k))) l)
       go false q = record { few = a .few; sets = λ j w h. one j w h (ℕ-discrete w v) }
         where
           one : (j w : ℕ) → j < 16 → Dec (w ≡ v) → member j (getD l w 0) ≡ (member j (getD old w 0) || (eqb j k && (leb u w && (ltb w (v + 1) && f w))))

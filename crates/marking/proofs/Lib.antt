@@ -1,2 +1,1 @@
-pub mod ReachLaws
 pub mod AddLaws

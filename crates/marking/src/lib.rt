@@ -1,33 +1,8 @@
-// A bead marked at the steps that it reaches from a starting step, by their sets in the forward pass from there.
+// A bead marked at the steps that some lane of a pass reaches.
 ghost use mathlib.Core.Path.{_≡_};
 ghost use Prim.Native.Nat.{_<_, _≤_};
 ghost use lib.ListN.{length};
-ghost use Rattle.passes.specs.Passes.{BeadIn};
-ghost use Rattle.marking.specs.Marking.{reachesAll, reachesBy, reachesAt, markedIf, Added, AllMarked};
-
-// Does an ALL bead reach the step that has this set in a forward pass? The set has an accepting state, and no other.
-fn reaches_all(pattern: &[u16], bead: usize, set: u16) -> bool
-    requires { ⌜ BeadIn (now pattern) bead ⌝ }
-    ensures { λ r. ⌜ r ≡ reachesAll (now (pattern .entry)) bead set ⌝ }
-{
-    let accepting = sets::overlaps(pattern[18 + bead], set);
-    if accepting {
-        let more = sets::overlaps(passes::other_states(pattern, bead), set);
-        return !more;
-    }
-    false
-}
-
-// Does the bead reach, from the starting step of a forward pass, the step that has this set in it?
-fn reaches(pattern: &[u16], bead: usize, set: u16) -> bool
-    requires { ⌜ BeadIn (now pattern) bead ⌝ }
-    ensures { λ r. ⌜ r ≡ reachesBy (now (pattern .entry)) bead set ⌝ }
-{
-    if pattern[2 + bead] == 2 {
-        return reaches_all(pattern, bead, set);
-    }
-    sets::overlaps(pattern[18 + bead], set)
-}
+ghost use Rattle.marking.specs.Marking.{foundAt, markedIf, Added, AllMarked};
 
 // The bead is added to the prefixes of the step, if so.
 fn mark(bead: usize, step: usize, holds: bool, prefixes: &mut [u16])
@@ -39,32 +14,23 @@ fn mark(bead: usize, step: usize, holds: bool, prefixes: &mut [u16])
     }
 }
 
-// The bead is added to the prefixes of the step, if it reaches the step by the step's set in a forward pass.
-fn mark_at(pattern: &[u16], bead: usize, step: usize, states: &[u16], prefixes: &mut [u16])
-    requires { ⌜ BeadIn (now pattern) bead ⌝ }
-    requires { ⌜ (step < 1024) × (1024 ≤ length (now states)) × (1024 ≤ length (now prefixes)) ⌝ }
-    ensures { λ _. ⌜ now (prefixes .exit) ≡ markedIf (reachesAt (now (pattern .entry)) bead (now (states .entry)) step) bead step (now (prefixes .entry)) ⌝ }
+// Does some lane reach the step?
+fn is_found(found: &[u16], step: usize) -> bool
+    requires { ⌜ step < length (now found) ⌝ }
+    ensures { λ r. ⌜ r ≡ foundAt (now (found .entry)) step ⌝ }
 {
-    let reached = reaches(pattern, bead, states[step]);
-    mark(bead, step, reached, prefixes);
+    found[step] != 0
 }
 
-// Adds the bead to the prefixes of the steps, from u on, that it reaches, by their sets in the forward pass from u.
-pub fn mark_reached(
-    pattern: &[u16],
-    bead: usize,
-    u: usize,
-    n: usize,
-    states: &[u16],
-    prefixes: &mut [u16],
-)
-    requires { ⌜ BeadIn (now pattern) bead ⌝ }
-    requires { ⌜ (u < n) × (n ≤ 1024) × (1024 ≤ length (now states)) × (1024 ≤ length (now prefixes)) ⌝ }
-    ensures { λ _. ⌜ Added (reachesAt (now (pattern .entry)) bead (now (states .entry))) bead u n (now (prefixes .entry)) (now (prefixes .exit)) ⌝ }
+// Adds the bead to the prefixes of the steps from u on that some lane reaches.
+pub fn mark_found(bead: usize, u: usize, n: usize, found: &[u16], prefixes: &mut [u16])
+    requires { ⌜ (bead < 16) × (u < n) × (n ≤ 1024) × (1024 ≤ length (now found)) × (1024 ≤ length (now prefixes)) ⌝ }
+    ensures { λ _. ⌜ Added (foundAt (now (found .entry))) bead u n (now (prefixes .entry)) (now (prefixes .exit)) ⌝ }
 {
     let mut v = u;
     while v < n {
-        mark_at(pattern, bead, v, states, prefixes);
+        let holds = is_found(found, v);
+        mark(bead, v, holds, prefixes);
         v += 1;
     }
 }

@@ -1,3 +1,2 @@
-pub mod FlagLaws
-pub mod Facts
-pub mod ServingLaws
+pub mod LaneLaws
+pub mod PassLaws

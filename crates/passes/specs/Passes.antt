@@ -1,80 +1,77 @@
--- What the judge's passes compute, in terms of the theory.
-use Prim.Native.Nat.{ℕ, zero, suc, _+_, _≤_, _<_}
+-- What a pass in sixteen lanes finds out: which lanes reach which steps.
+use Prim.Native.Nat.{ℕ, _+_, _≤_, _<_}
 use mathlib.Core.Path.{_≡_}
 use mathlib.Core.Bool.{Bool, cond, not, _&&_}
 use mathlib.Core.List.{List}
-use lib.Dec.{eqb}
-use lib.ListN.{length, getD}
+use lib.Dec.{T, eqb, ltb, leb}
+use lib.ListN.{getD}
 use Rattle.lists.specs.Places.{at}
-use Rattle.sets.specs.Sets.{member}
-use Rattle.necklace.specs.Dag.{Dag}
-use Rattle.necklace.specs.Necklace.{Pattern}
-use Rattle.necklace.specs.Compute.{holds?, serves?, before}
-use Rattle.pattern_line.specs.Limits.{mostBeads, mostStates, statesAt, bufferLength as patternLength}
-use Rattle.log_line.specs.Limits.{mostSteps}
+use Rattle.sets.specs.Sets.{member, setOf, complement, someBelow}
+use Rattle.necklace.specs.Dag.{WellFormed}
+use Rattle.forward.specs.Forward.{forward, reaches?}
+use Rattle.pattern_line.specs.Limits.{ruleAt, statesAt, acceptingAt}
+use Rattle.pattern_buffer.specs.Meaning.{labelsIn, automatonOf, patternOf}
 use Rattle.log_buffer.specs.Meaning.{stepsIn, logOf}
-use Rattle.pattern_buffer.specs.Meaning.{automatonOf, patternOf}
-use Rattle.step_table.specs.Table.{tableLength, Tabled, Filled, Laid}
-use Rattle.passes.specs.declared.Ready.{Ready}
+use Rattle.log_links.specs.Links.{Laid}
+use Rattle.entering.specs.Entering.{BeadIn}
+use Rattle.lanes.specs.Lanes.{workAt}
 
--- Which vertices up to v serve as the pivot before v for the bead k + 1: 1 where one does, else 0.
-pub record Flagged (G : Dag) (P : Pattern) (k v : ℕ) (flags : List ℕ) : Type 0 where
-  pub flag : (u : ℕ) → u ≤ v → getD flags u 0 ≡ cond (serves? G P k v u) 1 0
+-- What a pass relies on: a bead of the pattern, and a log that is well formed.
+pub record PassOf (pattern log : List ℕ) (k : ℕ) : Type 0 where
+  pub bead : BeadIn pattern k
+  pub few-labels : labelsIn pattern ≤ 16
+  pub laid : Laid log
+  pub well-formed : WellFormed (labelsIn pattern) (logOf log)
 
--- The pivot of the first k beads in the walk back from v over a pattern of k + d beads.
-unfoldable pub pivotBack : Dag → Pattern → ℕ → ℕ → ℕ → ℕ
-pivotBack G P k zero v = v
-pivotBack G P k (suc d) v = before G P k (pivotBack G P (suc k) d v)
+-- The steps at which the lane i begins: of those from `first` on and below `until`.
+unfoldable pub startsIn : List ℕ → ℕ → ℕ → ℕ → ℕ → Bool
+startsIn seeds first until i u = leb first u && (ltb u until && member i (getD seeds u 0))
 
--- Do the first k beads hold at u, by the marks? The first none hold at vertex 0 alone.
-unfoldable pub prefixAt : List ℕ → ℕ → ℕ → Bool
-prefixAt prefixes zero u = eqb u 0
-prefixAt prefixes (suc k) u = member k (getD prefixes u 0)
+-- The bead k + 1 reaches v from the starting vertices.
+unfoldable pub beadReaches : List ℕ → List ℕ → ℕ → (ℕ → Bool) → ℕ → Bool
+beadReaches pattern log k starts v = reaches? (patternOf pattern .bead k .modality) (logOf log) (automatonOf pattern k) starts v
 
--- The marks of the first k beads, whatever is marked of more or fewer.
-pub record Earlier (G : Dag) (P : Pattern) (k n : ℕ) (prefixes : List ℕ) : Type 0 where
-  pub holds : (u : ℕ) → u < n → prefixAt prefixes k u ≡ holds? G P k u
+-- The lanes that reach v.
+unfoldable pub laneReaches : List ℕ → List ℕ → ℕ → List ℕ → ℕ → ℕ → ℕ → ℕ → Bool
+laneReaches pattern log k seeds first until v i = beadReaches pattern log k (startsIn seeds first until i) v
 
--- u serves by SOME: the first k beads hold there, and state 0 is in its set.
-abbrev pub servesSome : List ℕ → List ℕ → ℕ → ℕ → Bool
-servesSome sets prefixes k u = prefixAt prefixes k u && member 0 (getD sets u 0)
+-- For each step the set of the lanes that reach it.
+pub record Found (pattern log : List ℕ) (k : ℕ) (seeds : List ℕ) (first until : ℕ) (found : List ℕ) : Type 0 where
+  pub lanes : (v : ℕ) → v < stepsIn log → getD found v 0 ≡ setOf 16 (laneReaches pattern log k seeds first until v)
 
--- u serves by ALL: so for the accepting states, and not for the others.
-abbrev pub servesAll : List ℕ → List ℕ → List ℕ → ℕ → ℕ → Bool
-servesAll sets others prefixes k u = servesSome sets prefixes k u && not (member 0 (getD others u 0))
+-- ---- by the lanes of a step
 
--- Flags by a test, for the vertices below n: 1 where it passes, else 0.
-pub record FlagsBy (f : ℕ → Bool) (n : ℕ) (flags : List ℕ) : Type 0 where
-  pub numbers : Filled (λ u. cond (f u) 1 0) n flags
+-- The lane is in some state of the set at x.
+unfoldable pub laneWith : List ℕ → ℕ → ℕ → ℕ → Bool
+laneWith work x states i = someBelow 16 (λ q. member q states && member i (getD work (workAt x q) 0))
 
--- A bead that a pattern buffer has.
-pub record BeadIn (pattern : List ℕ) (j : ℕ) : Type 0 where
-  pub long : patternLength ≤ length pattern
-  pub place : j < mostBeads
-  pub states : at pattern (statesAt j) ≤ mostStates
+-- It reaches x: SOME by an accepting state, ALL by one and by no other of the bead's.
+unfoldable pub laneHolds : List ℕ → ℕ → List ℕ → ℕ → ℕ → Bool
+laneHolds pattern k work x i =
+    cond (eqb (at pattern (ruleAt k)) 2)
+    (laneWith work x (at pattern (acceptingAt k)) i && not (laneWith work x (complement (at pattern (statesAt k)) (at pattern (acceptingAt k))) i))
+    (laneWith work x (at pattern (acceptingAt k)) i)
 
--- What is asked for the bead at place j and the target v: both are there, and the prefix before the bead is marked.
-pub record Asked (pattern log : List ℕ) (j v : ℕ) (prefixes : List ℕ) : Type 0 where
-  pub bead : BeadIn pattern j
-  pub log-laid : Laid log
-  pub target : v < stepsIn log
-  pub prefixes-long : mostSteps ≤ length prefixes
-  pub earlier : Earlier (logOf log) (patternOf pattern) j (stepsIn log) prefixes
+-- ---- the pass
 
--- The same with the step table of the bead.
-pub record AtHand (pattern log : List ℕ) (j v : ℕ) (prefixes work : List ℕ) : Type 0 where
-  pub asked : Asked pattern log j v prefixes
-  pub work-long : tableLength ≤ length work
-  pub table : Tabled (logOf log) (automatonOf pattern j) (stepsIn log) work
+-- The lanes that begin at x.
+unfoldable pub beginningAt : List ℕ → ℕ → ℕ → ℕ
+beginningAt seeds until x = cond (ltb x until) (getD seeds x 0) 0
 
--- What is at hand between calls: with bead 0 nothing; else the step table of the bead, numbered from 1, and the flags of the target.
-pub record ReadyFor (G : Dag) (P : Pattern) (n : ℕ) (ready : Ready) (work flags : List ℕ) : Type 0 where
-  pub table : (k : ℕ) → ready .bead ≡ k + 1 → Tabled G (P .bead k .automaton) n work
-  pub flagged : (k : ℕ) → ready .bead ≡ k + 1 → Flagged G P k (ready .target) flags
+-- The lanes of the steps from `first` on and below x are those of the forward passes.
+pub record Held (pattern log : List ℕ) (k : ℕ) (seeds : List ℕ) (first until x : ℕ) (work : List ℕ) : Type 0 where
+  pub begun : first ≤ x
+  pub lanes : (i w r : ℕ) → i < 16 → r < 16 → first ≤ w → w < x
+      → member i (getD work (workAt w r) 0) ≡ forward (logOf log) (automatonOf pattern k) (startsIn seeds first until i) w r
 
--- After a call for bead k + 1 and the target v: they are at hand.
-pub record Served (G : Dag) (P : Pattern) (n k v : ℕ) (ready : Ready) (work flags : List ℕ) : Type 0 where
-  pub bead : ready .bead ≡ k + 1
-  pub target : ready .target ≡ v
-  pub kept : ReadyFor G P n ready work flags
-  pub flagged : Flagged G P k v flags
+-- For each step below x the lanes that reach it are found, and none yet for the others.
+pub record FoundTo (pattern log : List ℕ) (k : ℕ) (seeds : List ℕ) (first until x : ℕ) (found : List ℕ) : Type 0 where
+  pub lanes : (v : ℕ) → v < x → getD found v 0 ≡ setOf 16 (laneReaches pattern log k seeds first until v)
+  pub rest : (v : ℕ) → x ≤ v → _≡_ {A = ℕ} (getD found v 0) 0
+
+-- No link leads past `reach` from a step below x at which a lane is in a hopeful state; nor does a lane begin past it.
+pub record Bounded (pattern log : List ℕ) (k hopeful : ℕ) (seeds : List ℕ) (first until : ℕ) (last : List ℕ) (x reach : ℕ) : Type 0 where
+  pub inside : reach < stepsIn log
+  pub starts : until ≤ reach + 1
+  pub far : (i w r : ℕ) → i < 16 → r < 16 → w < x → T (forward (logOf log) (automatonOf pattern k) (startsIn seeds first until i) w r) → T (member r hopeful)
+      → getD last w 0 ≤ reach

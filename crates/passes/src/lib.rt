@@ -1,245 +1,207 @@
-// Which steps serve as the pivot before a target: SOME and ALL are decided bead by bead, for all starting vertices at once, by backward
-// passes from the target.
+// The pass of a bead in sixteen lanes: for each step the set of the lanes that reach it, SOME or ALL by the bead's rule.
 ghost use mathlib.Core.Path.{_≡_};
-ghost use mathlib.Core.Bool.{cond};
-ghost use Prim.Native.Nat.{_<_, _≤_};
-ghost use lib.ListN.{length};
+ghost use Prim.Native.Nat.{_+_, _-_, _<_, _≤_};
+ghost use lib.ListN.{length, getD};
 ghost use Rattle.lists.specs.Places.{at};
-ghost use Rattle.sets.specs.Sets.{complement};
-ghost use Rattle.pattern_line.specs.Limits.{mostBeads, ruleAt, statesAt, acceptingAt};
-ghost use Rattle.log_line.specs.Limits.{mostSteps};
-ghost use Rattle.log_buffer.specs.Meaning.{logOf, stepsIn};
-ghost use Rattle.pattern_buffer.specs.Meaning.{patternOf};
-ghost use Rattle.step_table.specs.Table.{tableLength};
-ghost use Rattle.backward.specs.Backward.{PassedBy};
-ghost use Rattle.passes.specs.Passes.{Flagged, FlagsBy, prefixAt, servesSome, servesAll, BeadIn, Asked, AtHand, ReadyFor, Served};
-
-// What is at hand between calls of `serving`: with bead 0 nothing; else the step table of the bead, numbered from 1, and the flags of
-// the target.
-pub struct Ready {
-    pub bead: u16,
-    pub target: u16,
-}
-
-// Do the first beads, as many as `bead` says, hold at u?
-pub fn prefix_at(prefixes: &[u16], bead: usize, u: usize) -> bool
-    requires { ⌜ bead < mostBeads ⌝ }
-    requires { ⌜ u < length (now prefixes) ⌝ }
-    ensures { λ r. ⌜ r ≡ prefixAt (now (prefixes .entry)) bead u ⌝ }
-{
-    if bead == 0 {
-        return u == 0;
-    }
-    sets::member(prefixes[u], (bead - 1) as u16)
-}
-
-// Does u serve by SOME, the sets being those of the pass for the accepting states?
-fn serves_some(states: &[u16], prefixes: &[u16], bead: usize, u: usize) -> bool
-    requires { ⌜ bead < mostBeads ⌝ }
-    requires { ⌜ u < length (now states) ⌝ }
-    requires { ⌜ u < length (now prefixes) ⌝ }
-    ensures { λ r. ⌜ r ≡ servesSome (now (states .entry)) (now (prefixes .entry)) bead u ⌝ }
-{
-    let earlier = prefix_at(prefixes, bead, u);
-    if earlier {
-        return sets::member(states[u], 0);
-    }
-    false
-}
-
-// Does u serve by ALL, the second sets being those of the pass for the other states?
-fn serves_all(states: &[u16], others: &[u16], prefixes: &[u16], bead: usize, u: usize) -> bool
-    requires { ⌜ bead < mostBeads ⌝ }
-    requires { ⌜ u < length (now states) ⌝ }
-    requires { ⌜ u < length (now others) ⌝ }
-    requires { ⌜ u < length (now prefixes) ⌝ }
-    ensures { λ r. ⌜ r ≡ servesAll (now (states .entry)) (now (others .entry)) (now (prefixes .entry)) bead u ⌝ }
-{
-    let some = serves_some(states, prefixes, bead, u);
-    if some {
-        let other = sets::member(others[u], 0);
-        return !other;
-    }
-    false
-}
-
-fn flag(b: bool) -> u16
-    ensures { λ r. ⌜ r ≡ cond b 1 0 ⌝ }
-{
-    if b {
-        return 1;
-    }
-    0
-}
-
-// The flags of a SOME bead, for so many steps.
-fn flag_some(states: &[u16], prefixes: &[u16], bead: usize, count: usize, flags: &mut [u16])
-    requires { ⌜ bead < mostBeads ⌝ }
-    requires { ⌜ count ≤ length (now states) ⌝ }
-    requires { ⌜ count ≤ length (now prefixes) ⌝ }
-    requires { ⌜ count ≤ length (now flags) ⌝ }
-    ensures { λ _. ⌜ FlagsBy (servesSome (now (states .entry)) (now (prefixes .entry)) bead) count (now (flags .exit)) ⌝ }
-{
-    let mut u = 0;
-    while u < count {
-        let serves = serves_some(states, prefixes, bead, u);
-        flags[u] = flag(serves);
-        u += 1;
-    }
-}
-
-// The flags of an ALL bead, for so many steps.
-fn flag_all(
-    states: &[u16],
-    others: &[u16],
-    prefixes: &[u16],
-    bead: usize,
-    count: usize,
-    flags: &mut [u16],
-)
-    requires { ⌜ bead < mostBeads ⌝ }
-    requires { ⌜ count ≤ length (now states) ⌝ }
-    requires { ⌜ count ≤ length (now others) ⌝ }
-    requires { ⌜ count ≤ length (now prefixes) ⌝ }
-    requires { ⌜ count ≤ length (now flags) ⌝ }
-    ensures { λ _. ⌜ FlagsBy (servesAll (now (states .entry)) (now (others .entry)) (now (prefixes .entry)) bead) count (now (flags .exit)) ⌝ }
-{
-    let mut u = 0;
-    while u < count {
-        let serves = serves_all(states, others, prefixes, bead, u);
-        flags[u] = flag(serves);
-        u += 1;
-    }
-}
-
-// The flags of a SOME bead, by the step table in `work`: one pass, for the accepting states.
-fn make_some(
-    pattern: &[u16],
-    log: &[u16],
-    bead: usize,
-    target: usize,
-    prefixes: &[u16],
-    work: &[u16],
-    flags: &mut [u16],
-)
-    requires { ⌜ AtHand (now pattern) (now log) bead target (now prefixes) (now work) ⌝ }
-    requires { ⌜ mostSteps ≤ length (now flags) ⌝ }
-    requires { ⌜ (at (now pattern) (ruleAt bead) ≡ 2 → ⊥) ⌝ }
-    ensures { λ _. ⌜ Flagged (logOf (now (log .entry))) (patternOf (now (pattern .entry))) bead target (now (flags .exit)) ⌝ }
-{
-    let mut states = [0u16; 1024];
-    backward::backward_pass(log, work, target, pattern[18 + bead], &mut states);
-    flag_some(&states, prefixes, bead, target + 1, flags);
-}
-
-// The flags of an ALL bead: a pass for the accepting states, and a second one for the others.
-fn make_all(
-    pattern: &[u16],
-    log: &[u16],
-    bead: usize,
-    target: usize,
-    prefixes: &[u16],
-    work: &[u16],
-    flags: &mut [u16],
-)
-    requires { ⌜ AtHand (now pattern) (now log) bead target (now prefixes) (now work) ⌝ }
-    requires { ⌜ mostSteps ≤ length (now flags) ⌝ }
-    requires { ⌜ at (now pattern) (ruleAt bead) ≡ 2 ⌝ }
-    ensures { λ _. ⌜ Flagged (logOf (now (log .entry))) (patternOf (now (pattern .entry))) bead target (now (flags .exit)) ⌝ }
-{
-    let mut states = [0u16; 1024];
-    backward::backward_pass(log, work, target, pattern[18 + bead], &mut states);
-    make_denied(pattern, log, bead, target, &states, prefixes, work, flags);
-}
-
-// The flags of an ALL bead, given the sets of the pass for the accepting states.
-fn make_denied(
-    pattern: &[u16],
-    log: &[u16],
-    bead: usize,
-    target: usize,
-    states: &[u16],
-    prefixes: &[u16],
-    work: &[u16],
-    flags: &mut [u16],
-)
-    requires { ⌜ AtHand (now pattern) (now log) bead target (now prefixes) (now work) ⌝ }
-    requires { ⌜ mostSteps ≤ length (now states) ⌝ }
-    requires { ⌜ mostSteps ≤ length (now flags) ⌝ }
-    requires { ⌜ at (now pattern) (ruleAt bead) ≡ 2 ⌝ }
-    requires { ⌜ PassedBy (now log) (now work) (at (now pattern) (acceptingAt bead)) target (now states) ⌝ }
-    ensures { λ _. ⌜ Flagged (logOf (now (log .entry))) (patternOf (now (pattern .entry))) bead target (now (flags .exit)) ⌝ }
-{
-    let mut others = [0u16; 1024];
-    let rest = other_states(pattern, bead);
-    backward::backward_pass(log, work, target, rest, &mut others);
-    flag_all(states, &others, prefixes, bead, target + 1, flags);
-}
+ghost use Rattle.sets.specs.Sets.{setOf, complement};
+ghost use Rattle.pattern_line.specs.Limits.{statesAt, acceptingAt};
+ghost use Rattle.log_buffer.specs.Meaning.{stepsIn};
+ghost use Rattle.log_links.specs.Links.{LastTo};
+ghost use Rattle.entering.specs.Entering.{BeadIn};
+ghost use Rattle.hope.specs.Hope.{HopefulSet};
+ghost use Rattle.lanes.specs.Lanes.{workLength};
+ghost use Rattle.passes.specs.Passes.{PassOf, Found, laneWith, laneHolds, beginningAt, Held, FoundTo, Bounded};
 
 // The states of a bead that do not accept.
-pub fn other_states(pattern: &[u16], bead: usize) -> u16
+fn other_states(pattern: &[u16], bead: usize) -> u16
     requires { ⌜ BeadIn (now pattern) bead ⌝ }
     ensures { λ r. ⌜ r ≡ complement (at (now (pattern .entry)) (statesAt bead)) (at (now (pattern .entry)) (acceptingAt bead)) ⌝ }
 {
     sets::complement(pattern[18 + bead], pattern[10 + bead])
 }
 
-// The flags of a bead, by its rule.
-fn make_flags(
-    pattern: &[u16],
-    log: &[u16],
-    bead: usize,
-    target: usize,
-    prefixes: &[u16],
-    work: &[u16],
-    flags: &mut [u16],
-)
-    requires { ⌜ AtHand (now pattern) (now log) bead target (now prefixes) (now work) ⌝ }
-    requires { ⌜ mostSteps ≤ length (now flags) ⌝ }
-    ensures { λ _. ⌜ Flagged (logOf (now (log .entry))) (patternOf (now (pattern .entry))) bead target (now (flags .exit)) ⌝ }
+// The lanes that are in some state of the set at the step x.
+fn lanes_with(work: &[u16], x: usize, states: u16) -> u16
+    requires { ⌜ (x < 1024) × (workLength ≤ length (now work)) ⌝ }
+    ensures { λ r. ⌜ r ≡ setOf 16 (laneWith (now (work .entry)) x states) ⌝ }
 {
-    if pattern[2 + bead] == 2 {
-        make_all(pattern, log, bead, target, prefixes, work, flags);
-        return;
-    }
-    make_some(pattern, log, bead, target, prefixes, work, flags);
+    entering::union_over(states, work, 16 * x)
 }
 
-// The flags of the steps that serve as the pivot before the target for a bead. The step table is made only for another bead than
-// before, the passes only for another bead or target.
-pub fn serving(
+// The lanes that reach the step x: an ALL bead takes away those that are in another state too.
+fn reaching(pattern: &[u16], bead: usize, work: &[u16], x: usize) -> u16
+    requires { ⌜ BeadIn (now pattern) bead ⌝ }
+    requires { ⌜ (x < 1024) × (workLength ≤ length (now work)) ⌝ }
+    ensures { λ r. ⌜ r ≡ setOf 16 (laneHolds (now (pattern .entry)) bead (now (work .entry)) x) ⌝ }
+{
+    let accepting = lanes_with(work, x, pattern[18 + bead]);
+    if pattern[2 + bead] == 2 {
+        let others = lanes_with(work, x, other_states(pattern, bead));
+        return sets::intersection(accepting, sets::complement(others, 16));
+    }
+    accepting
+}
+
+// The lanes that begin at the step x.
+fn beginning(seeds: &[u16], until: usize, x: usize) -> u16
+    requires { ⌜ (until ≤ 1024) × (1024 ≤ length (now seeds)) ⌝ }
+    ensures { λ r. ⌜ r ≡ beginningAt (now (seeds .entry)) until x ⌝ }
+{
+    if x < until {
+        return seeds[x];
+    }
+    0
+}
+
+// The turn of the step x: the lanes that arrive there, and those that begin there.
+fn advance(
     pattern: &[u16],
     log: &[u16],
     bead: usize,
-    target: usize,
-    ready: Ready,
-    prefixes: &[u16],
+    seeds: &[u16],
+    first: usize,
+    until: usize,
+    x: usize,
     work: &mut [u16],
-    flags: &mut [u16],
-) -> Ready
-    requires { ⌜ Asked (now pattern) (now log) bead target (now prefixes) ⌝ }
-    requires { ⌜ tableLength ≤ length (now work) ⌝ }
-    requires { ⌜ mostSteps ≤ length (now flags) ⌝ }
-    requires { ⌜ ReadyFor (logOf (now log)) (patternOf (now pattern)) (stepsIn (now log)) ready (now work) (now flags) ⌝ }
-    ensures { λ r. ⌜ Served (logOf (now (log .entry))) (patternOf (now (pattern .entry))) (stepsIn (now (log .entry))) bead target r
-        (now (work .exit)) (now (flags .exit)) ⌝ }
+)
+    requires { ⌜ PassOf (now pattern) (now log) bead ⌝ }
+    requires { ⌜ (x < stepsIn (now log)) × (until ≤ 1024) × (1024 ≤ length (now seeds)) × (workLength ≤ length (now work)) ⌝ }
+    requires { ⌜ Held (now pattern) (now log) bead (now seeds) first until x (now work) ⌝ }
+    ensures { λ _. ⌜ Held (now (pattern .entry)) (now (log .entry)) bead (now (seeds .entry)) first until (x + 1) (now (work .exit)) ⌝ }
 {
-    let number = bead as u16 + 1;
-    let place = target as u16;
-    if ready.bead != number {
-        step_table::fill_table(pattern, log, bead, work);
-        make_flags(pattern, log, bead, target, prefixes, work, flags);
-        return Ready {
-            bead: number,
-            target: place,
-        };
+    let begin = beginning(seeds, until, x);
+    lanes::turn(pattern, log, bead, first, x, begin, work);
+}
+
+// The lanes that reach the step x.
+fn find(
+    pattern: &[u16],
+    log: &[u16],
+    bead: usize,
+    seeds: &[u16],
+    first: usize,
+    until: usize,
+    x: usize,
+    work: &[u16],
+    found: &mut [u16],
+)
+    requires { ⌜ BeadIn (now pattern) bead ⌝ }
+    requires { ⌜ (first ≤ x) × (x < 1024) × (workLength ≤ length (now work)) × (1024 ≤ length (now found)) ⌝ }
+    requires { ⌜ Held (now pattern) (now log) bead (now seeds) first until (x + 1) (now work) ⌝ }
+    requires { ⌜ FoundTo (now pattern) (now log) bead (now seeds) first until x (now found) ⌝ }
+    ensures { λ _. ⌜ FoundTo (now (pattern .entry)) (now (log .entry)) bead (now (seeds .entry)) first until (x + 1) (now (found .exit)) ⌝ }
+{
+    found[x] = reaching(pattern, bead, work, x);
+}
+
+// How far the pass has to go after the step x: to the last step that it has a link to, if a lane there is in a hopeful state.
+fn reach_after(
+    pattern: &[u16],
+    log: &[u16],
+    bead: usize,
+    hopeful: u16,
+    seeds: &[u16],
+    first: usize,
+    until: usize,
+    last: &[u16],
+    x: usize,
+    reach: usize,
+    work: &[u16],
+) -> usize
+    requires { ⌜ LastTo (now log) (stepsIn (now log)) (now last) ⌝ }
+    requires { ⌜ (first ≤ x) × (x < 1024) × (1024 ≤ length (now last)) × (workLength ≤ length (now work)) ⌝ }
+    requires { ⌜ Held (now pattern) (now log) bead (now seeds) first until (x + 1) (now work) ⌝ }
+    requires { ⌜ Bounded (now pattern) (now log) bead hopeful (now seeds) first until (now last) x reach ⌝ }
+    ensures { λ r. ⌜ Bounded (now (pattern .entry)) (now (log .entry)) bead hopeful (now (seeds .entry)) first until (now (last .entry)) (x + 1) r ⌝ }
+{
+    let hope = lanes_with(work, x, hopeful);
+    if hope == 0 {
+        return reach;
     }
-    if ready.target != place {
-        make_flags(pattern, log, bead, target, prefixes, work, flags);
-        return Ready {
-            bead: number,
-            target: place,
-        };
+    let far = lists::wide(last[x]);
+    if far < reach {
+        return reach;
     }
-    ready
+    far
+}
+
+// The turns from the first step on, as far as the pass has to go.
+fn pass_turns(
+    pattern: &[u16],
+    log: &[u16],
+    bead: usize,
+    hopeful: u16,
+    seeds: &[u16],
+    first: usize,
+    until: usize,
+    last: &[u16],
+    work: &mut [u16],
+    found: &mut [u16],
+)
+    requires { ⌜ PassOf (now pattern) (now log) bead ⌝ }
+    requires { ⌜ LastTo (now log) (stepsIn (now log)) (now last) ⌝ }
+    requires { ⌜ HopefulSet (now pattern) bead hopeful ⌝ }
+    requires { ⌜ (first < until) × (until ≤ stepsIn (now log)) ⌝ }
+    requires { ⌜ (1024 ≤ length (now seeds)) × (1024 ≤ length (now last)) × (workLength ≤ length (now work)) × (1024 ≤ length (now found)) ⌝ }
+    requires { ⌜ FoundTo (now pattern) (now log) bead (now seeds) first until first (now found) ⌝ }
+    ensures { λ _. ⌜ Found (now (pattern .entry)) (now (log .entry)) bead (now (seeds .entry)) first until (now (found .exit)) ⌝ }
+{
+    let mut reach = until - 1;
+    let mut x = first;
+    while x <= reach {
+        advance(pattern, log, bead, seeds, first, until, x, work);
+        find(pattern, log, bead, seeds, first, until, x, work, found);
+        reach = reach_after(
+            pattern,
+            log,
+            bead,
+            hopeful,
+            seeds,
+            first,
+            until,
+            last,
+            x,
+            reach,
+            work,
+        );
+        x += 1;
+    }
+}
+
+// The pass of a bead from the starting steps: for each step the set of the lanes that reach it. It ends where no lane can come to accept
+// any more.
+pub fn pass(
+    pattern: &[u16],
+    log: &[u16],
+    bead: usize,
+    hopeful: u16,
+    seeds: &[u16],
+    first: usize,
+    until: usize,
+    last: &[u16],
+    work: &mut [u16],
+    found: &mut [u16],
+)
+    requires { ⌜ PassOf (now pattern) (now log) bead ⌝ }
+    requires { ⌜ LastTo (now log) (stepsIn (now log)) (now last) ⌝ }
+    requires { ⌜ HopefulSet (now pattern) bead hopeful ⌝ }
+    requires { ⌜ until ≤ stepsIn (now log) ⌝ }
+    requires { ⌜ (1024 ≤ length (now seeds)) × (1024 ≤ length (now last)) × (workLength ≤ length (now work)) × (1024 ≤ length (now found)) ⌝ }
+    ensures { λ _. ⌜ Found (now (pattern .entry)) (now (log .entry)) bead (now (seeds .entry)) first until (now (found .exit)) ⌝ }
+{
+    lists::clear_all(found);
+    if first < until {
+        pass_turns(
+            pattern,
+            log,
+            bead,
+            hopeful,
+            seeds,
+            first,
+            until,
+            last,
+            work,
+            found,
+        );
+    }
 }

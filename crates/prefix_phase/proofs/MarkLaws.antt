@@ -1,32 +1,33 @@
 -- A turn of the first phase, as the code makes it.
 -- Assumes nothing.
-use Prim.Native.Nat.{ℕ, zero, suc, _+_, _*_, _/_, _%_, _^_, _≤_, _<_}
+use Prim.Native.Nat.{ℕ, zero, suc, _+_, _-_, _*_, _/_, _%_, _^_, _≤_, _<_}
 use mathlib.Core.Path.{_≡_, refl, sym, ap, _∙_, subst}
 use mathlib.Core.Bool.{Bool, true, false}
 use mathlib.Core.List.{List}
-use native.Mathlib.Decide.{decLt}
-use native.Mathlib.Nat.{mod-lt, zero-mod, mul-zero, suc-mul, div-add-mod', div-lt-iff-lt-mul, mul-le-mul}
+use native.Mathlib.Nat.{mod-lt, mul-zero, suc-mul, div-add-mod', div-lt-iff-lt-mul, mul-le-mul, mul-le-mul-right}
 use native.Mathlib.Numerals.{add-one}
 use native.Mathlib.Omega.{arith}
-use lib.Arith.{digits-div, digits-mod}
+use lib.Dec.{T}
 use lib.ListN.{length, getD}
 use Rattle.necklace.specs.Dag.{Dag}
 use Rattle.necklace.specs.Necklace.{Pattern}
 use Rattle.necklace.specs.Compute.{holds?}
 use Rattle.log_buffer.specs.Meaning.{logOf, stepsIn}
 use Rattle.log_buffer.proofs.Meaning.{log-well-formed}
-use Rattle.pattern_buffer.specs.Meaning.{beadsIn, labelsIn, automatonOf, patternOf}
-use Rattle.passes.specs.declared.Ready.{Ready}
-use Rattle.step_table.specs.Table.{Tabled, Laid}
-use Rattle.forward.specs.Pass.{ForwardedBy}
-use Rattle.passes.specs.Passes.{BeadIn, Earlier, prefixAt, Served, ReadyFor}
-use Rattle.passes.proofs.Facts.{laid, bead-in}
-use Rattle.pattern_buffer.proofs.Places.{passes-out}
-use Rattle.prefix_phase.specs.Marked.{Tried, Turns, TurnOf, TableAt, Unmarked, satisfiesFrom, servesFrom, MarkedUpTo, Marks}
+use Rattle.pattern_buffer.specs.Meaning.{beadsIn, labelsIn, patternOf}
+use Rattle.pattern_buffer.specs.Valid.{isPattern}
+use Rattle.pattern_buffer.proofs.Places.{passes-out, states-fit}
+use Rattle.log_links.specs.Links.{Laid, LastTo}
+use Rattle.log_links.proofs.LinkLaws.{laid}
+use Rattle.entering.specs.Entering.{BeadIn}
+use Rattle.hope.specs.Hope.{Hopes, AllBeads}
+use Rattle.passes.specs.Passes.{PassOf}
+use Rattle.starts.specs.Starts.{prefixAt, Earlier}
+use Rattle.marking.specs.Marking.{foundAt, Added, AllMarked}
+use Rattle.marking.proofs.AddLaws.{added-ext, added-all}
+use Rattle.serving.specs.Serving.{Asked, servesIn, FoundIn}
+use Rattle.prefix_phase.specs.Marked.{Tried, Turns, Unmarked, MarkedUpTo, TurnMade, Marks}
 use Rattle.prefix_phase.proofs.PrefixPhase.{marked-none, marked-turn, marked-all, marked-earlier}
-use Rattle.marking.specs.Marking.{reachesAt, Added}
-use Rattle.marking.proofs.ReachLaws.{reaches-satisfies}
-use Rattle.marking.proofs.AddLaws.{added-ext, added-none, added-all}
 
 -- ---- what the tests give
 
@@ -52,6 +53,25 @@ module _ (pattern log : List ℕ) (t : Tried pattern log) where
       let g : n ≤ 1024 = let m = lies .few in omega arith in
       let h : beads * n ≤ 8 * 1024 = mul-le-mul f g in
       omega arith
+
+bead-in : (pattern : List ℕ) (j : ℕ) → T (isPattern pattern) → j < beadsIn pattern → BeadIn pattern j
+bead-in pattern j t h =
+    let p = passes-out pattern t in
+    let m = p .beads-most in
+    record { long = p .long; place = omega arith; states = states-fit pattern j (p .beads j (omega arith)) }
+
+pub all-beads : (pattern log : List ℕ) → Tried pattern log → AllBeads pattern
+all-beads pattern log t =
+    let p = passes-out pattern (t .is-pattern) in
+    record { long = p .long; few = p .beads-most; beads = λ j h. bead-in pattern j (t .is-pattern) h }
+
+pub pass-of : (pattern log : List ℕ) → Tried pattern log → (k : ℕ) → k < beadsIn pattern → PassOf pattern log k
+pass-of pattern log t k h = record {
+  bead = bead-in pattern k (t .is-pattern) h;
+  few-labels = passes-out pattern (t .is-pattern) .labels-most;
+  laid = laid (labelsIn pattern) log (t .is-log);
+  well-formed = log-well-formed (labelsIn pattern) log (t .is-log);
+}
 
 module _ (pattern log : List ℕ) (n turns : ℕ) (t : Turns pattern log n turns) where
   pub steps-few : n ≤ 1024
@@ -86,26 +106,37 @@ module _ (pattern log : List ℕ) (n turns : ℕ) (t : Turns pattern log n turns
     pub step-small : turn % n < 1024
     step-small = let a = turn-step in let b = steps-few in omega arith
 
-    pub turn-of : TurnOf pattern log n (turn / n) (turn % n)
-    turn-of = record { tried = t .tried; steps-are = t .steps-are; bead = bead-inside; start = turn-step }
+    turn-is : turn ≡ turn / n * n + turn % n
+    turn-is = sym (div-add-mod' turn n)
 
-    -- the step table of a turn is at hand at the next, if that is the same bead's
-    pub table-next : (work : List ℕ) → Tabled (logOf log) (automatonOf pattern (turn / n)) (stepsIn log) work
-        → TableAt pattern log ((turn + 1) / n) ((turn + 1) % n) work
-    table-next work d = record { table = λ ne. subst (λ (k : ℕ). Tabled (logOf log) (automatonOf pattern k) (stepsIn log) work) (sym (go ne (decLt (turn % n + 1) n))) d }
-      where
-        parts : turn + 1 ≡ turn / n * n + (turn % n + 1)
-        parts = let e = div-add-mod' turn n in omega arith
+    -- the next turn
+    module _ (to : ℕ) (up : turn % n < to) (most : to ≤ n) where
+      pub next-up : turn < turn / n * n + to
+      next-up = let e = turn-is in omega arith
 
-        go : ((turn + 1) % n ≡ 0 → ⊥) → Dec (turn % n + 1 < n) → (turn + 1) / n ≡ turn / n
-        go ne (yes l) = ap (λ (x : ℕ). x / n) parts ∙ digits-div (turn / n) l
-        go ne (no l) =
-            let r = turn-step in
-            let e : turn + 1 ≡ (turn / n + 1) * n + 0 = parts ∙ whole (turn / n) (turn % n + 1) (omega arith) in
-            absurd (ne (ap (λ (x : ℕ). x % n) e ∙ digits-mod (turn / n + 1) steps-some))
-          where
-            whole : (q r : ℕ) → r ≡ n → q * n + r ≡ (q + 1) * n + 0
-            whole q r e = rw (e, add-one q, suc-mul q n) (omega arith)
+      pub next-most : turn / n * n + to ≤ turns
+      next-most =
+          let b : turn / n + 1 ≤ beadsIn pattern = let i = bead-inside in omega arith in
+          let q : (turn / n + 1) * n ≤ beadsIn pattern * n = mul-le-mul-right n b in
+          let r : (turn / n + 1) * n ≡ turn / n * n + n = ap (λ (x : ℕ). x * n) (add-one (turn / n)) ∙ suc-mul (turn / n) n in
+          let t' = t .turns-are in
+          omega arith
+
+    pub next-less : (to : ℕ) (old new : List ℕ) → TurnMade pattern log n (turn / n) (turn % n) to old new → turns - (turn / n * n + to) < turns - turn
+    next-less to old new a = let u = next-up to (a .some) (a .inside) in omega arith
+
+    pub row-fits : turn / n * n < 2 ^ 64
+    row-fits =
+        let f : turn / n ≤ 8 = let m = bead-few in omega arith in
+        let h : turn / n * n ≤ 8 * 1024 = mul-le-mul f steps-few in
+        omega arith
+
+    pub next-fits : (to : ℕ) → to ≤ n → turn / n * n + to < 2 ^ 64
+    next-fits to most =
+        let f : turn / n ≤ 8 = let m = bead-few in omega arith in
+        let h : turn / n * n ≤ 8 * 1024 = mul-le-mul f steps-few in
+        let g = steps-few in
+        omega arith
 
     module _ (prefixes : List ℕ) (m : MarkedUpTo (logOf log) (patternOf pattern) n turn prefixes) where
       earlier-at : (k : ℕ) → k ≤ turn / n → Earlier (logOf log) (patternOf pattern) k (stepsIn log) prefixes
@@ -121,11 +152,22 @@ module _ (pattern log : List ℕ) (n turns : ℕ) (t : Turns pattern log n turns
       pub turn-earlier : Earlier (logOf log) (patternOf pattern) (turn / n) (stepsIn log) prefixes
       turn-earlier = earlier-at (turn / n) (omega arith)
 
-      -- A turn's marks.
-      pub turn-marked : (new : List ℕ)
-          → Added (servesFrom (logOf log) (patternOf pattern) (turn / n) (turn % n)) (turn / n) (turn % n) n prefixes new
-          → MarkedUpTo (logOf log) (patternOf pattern) n (turn + 1) new
-      turn-marked new a = marked-turn (logOf log) (patternOf pattern) n turn prefixes new m (turn / n) (turn % n) (sym (div-add-mod' turn n)) turn-step a
+      pub turn-asked : (hopes last : List ℕ) → Hopes pattern hopes → LastTo log (stepsIn log) last → Asked pattern log n (turn / n) (turn % n) prefixes hopes last
+      turn-asked hopes last h l = record {
+        pass = pass-of pattern log (t .tried) (turn / n) bead-inside;
+        bead = bead-inside;
+        steps-are = t .steps-are;
+        begin = turn-step;
+        earlier = turn-earlier;
+        hopeful = h;
+        far = l;
+      }
+
+      -- a turn's marks
+      pub turn-marked : (to : ℕ) (new : List ℕ) → TurnMade pattern log n (turn / n) (turn % n) to prefixes new
+          → MarkedUpTo (logOf log) (patternOf pattern) n (turn / n * n + to) new
+      turn-marked to new a =
+          marked-turn (logOf log) (patternOf pattern) n turn prefixes new m (turn / n) (turn % n) to turn-is turn-step (a .some) (a .inside) (a .added)
 
   pub none-marked : (prefixes : List ℕ) → Unmarked prefixes → MarkedUpTo (logOf log) (patternOf pattern) n 0 prefixes
   none-marked prefixes u = marked-none (logOf log) (patternOf pattern) n prefixes (u .none)
@@ -139,87 +181,43 @@ module _ (pattern log : List ℕ) (n turns : ℕ) (t : Turns pattern log n turns
         (let q : turn ≡ turns = omega arith in q ∙ t .turns-are) m v (let e = t .steps-are in omega arith);
   }
 
-  pub table-first : (work : List ℕ) → TableAt pattern log (0 / n) (0 % n) work
-  table-first work = record { table = λ ne. absurd (ne (zero-mod n)) }
+pub made-up : (pattern log : List ℕ) (n k from to : ℕ) (old new : List ℕ) → TurnMade pattern log n k from to old new → from < to
+made-up pattern log n k from to old new a = a .some
 
-pub ready-again : (G : Dag) (P : Pattern) (n k v : ℕ) (made : Ready) (work flags : List ℕ) → Served G P n k v made work flags → ReadyFor G P n made work flags
-ready-again G P n k v made work flags s = s .kept
+pub made-most : (pattern log : List ℕ) (n k from to : ℕ) (old new : List ℕ) → TurnMade pattern log n k from to old new → to ≤ n
+made-most pattern log n k from to old new a = a .inside
 
-pub ruleset turn-kit = (steps-some, turn-of, turn-earlier, turn-marked, table-first, table-next, none-marked, all-marked)
+pub ruleset turn-kit = (steps-some, row-fits, next-fits, made-up, made-most, none-marked, all-marked)
+
+pub ruleset next-kit = (next-less, next-most, made-up, made-most)
 
 pub ruleset tried-kit = (turns-tried, turns-fit, log-there, pattern-there)
 
 -- ---- one turn
 
-module _ (pattern log : List ℕ) (n k u : ℕ) (t : TurnOf pattern log n k u) where
-  pub turn-bead : BeadIn pattern k
-  turn-bead = bead-in pattern k (t .tried .is-pattern) (t .bead)
+module _ (pattern log : List ℕ) (n k from : ℕ) (prefixes hopes last : List ℕ) (ask : Asked pattern log n k from prefixes hopes last) where
+  pub asked-bit : k < 16
+  asked-bit = let h = ask .pass .bead .place in omega arith
 
-  pub turn-laid : Laid log
-  turn-laid = lies pattern log (t .tried)
+  pub asked-long : 2 + k < length pattern
+  asked-long = let h = ask .pass .bead .place in let l = ask .pass .bead .long in omega arith
 
-  pub turn-start : u < stepsIn log
-  turn-start = let h = t .start in let e = t .steps-are in omega arith
+  pub asked-begin : from < n
+  asked-begin = ask .begin
 
-  pub turn-below : u < n
-  turn-below = t .start
+  pub asked-few : n ≤ 1024
+  asked-few = let e = ask .steps-are in let f = ask .pass .laid .few in omega arith
 
-  pub turn-small : u < 1024
-  turn-small = let h = turn-start in let f = turn-laid .few in omega arith
+  -- where every later step has the bead nothing is left to look at
+  pub made-all : (r : Bool) → AllMarked k from n prefixes r → r ≡ true → TurnMade pattern log n k from n prefixes prefixes
+  made-all r a e = record { some = ask .begin; inside = omega arith; added = added-all (servesIn (logOf log) (patternOf pattern) k from n) k from n prefixes r a e }
 
-  pub turn-inside : (l : List ℕ) → 1024 ≤ length l → u < length l
-  turn-inside l h = let b = turn-small in omega arith
+  pub made-found : (to : ℕ) (found new : List ℕ) → FoundIn pattern log n k from to found → Added (foundAt found) k from n prefixes new
+      → TurnMade pattern log n k from to prefixes new
+  made-found to found new f a = record {
+    some = f .some;
+    inside = f .inside;
+    added = added-ext (foundAt found) (servesIn (logOf log) (patternOf pattern) k from to) k from n prefixes new (λ v up l. f .served v l) a;
+  }
 
-  pub turn-few : n ≤ 1024
-  turn-few = let f = turn-laid .few in let e = t .steps-are in omega arith
-
-  pub turn-long : 2074 ≤ length pattern
-  turn-long = turn-bead .long
-
-  pub turn-place : k < 8
-  turn-place = turn-bead .place
-
-  pub turn-bit : k < 16
-  turn-bit = let h = turn-bead .place in omega arith
-
-  pub turn-table : (work : List ℕ) → TableAt pattern log k u work → (u ≡ 0 → ⊥) → Tabled (logOf log) (automatonOf pattern k) (stepsIn log) work
-  turn-table work a h = a .table h
-
-  -- what the forward pass reaches is what the bead holds on
-  pub reached-satisfies : (work states old new : List ℕ) → Tabled (logOf log) (automatonOf pattern k) (stepsIn log) work → ForwardedBy log work u states
-      → Added (reachesAt pattern k states) k u n old new → Added (satisfiesFrom (logOf log) (patternOf pattern) k u) k u n old new
-  unfolding reachesAt satisfiesFrom
-  reached-satisfies work states old new d p a =
-      added-ext (reachesAt pattern k states) (satisfiesFrom (logOf log) (patternOf pattern) k u) k u n old new (λ v up r. same v up r) a
-    where
-      same : (v : ℕ) → u ≤ v → v < n → reachesAt pattern k states v ≡ satisfiesFrom (logOf log) (patternOf pattern) k u v
-      same v up r =
-          reaches-satisfies pattern log work (log-well-formed (labelsIn pattern) log (t .tried .is-log)) k u states d p v (let e = t .steps-are in omega arith)
-
-  module _ (b : Bool) (prefixes : List ℕ) (earlier : Earlier (logOf log) (patternOf pattern) k (stepsIn log) prefixes) (e : b ≡ prefixAt prefixes k u) where
-    held : b ≡ holds? (logOf log) (patternOf pattern) k u
-    held = e ∙ earlier .holds u turn-start
-
-    pub served-yes : (new : List ℕ) → b ≡ true → Added (satisfiesFrom (logOf log) (patternOf pattern) k u) k u n prefixes new
-        → Added (servesFrom (logOf log) (patternOf pattern) k u) k u n prefixes new
-    unfolding satisfiesFrom servesFrom
-    served-yes new y a =
-        added-ext (satisfiesFrom (logOf log) (patternOf pattern) k u) (servesFrom (logOf log) (patternOf pattern) k u) k u n prefixes new (λ v up r. same v) a
-      where
-        same : (v : ℕ) → satisfiesFrom (logOf log) (patternOf pattern) k u v ≡ servesFrom (logOf log) (patternOf pattern) k u v
-        same v = rw (← held, y) refl
-
-    pub served-no : b ≡ false → Added (servesFrom (logOf log) (patternOf pattern) k u) k u n prefixes prefixes
-    unfolding servesFrom
-    served-no y = added-none (servesFrom (logOf log) (patternOf pattern) k u) k u n prefixes (λ v up r. same v)
-      where
-        same : (v : ℕ) → servesFrom (logOf log) (patternOf pattern) k u v ≡ false
-        same v = rw (← held, y) refl
-
-pub ruleset from-kit = (turn-bead, turn-laid, turn-start, turn-below, turn-few, reached-satisfies)
-
-pub ruleset done-kit = (turn-bit, turn-below, turn-few, added-all)
-
-pub ruleset served-kit = (turn-place, turn-inside, served-yes, served-no)
-
-pub ruleset table-kit = (turn-long, turn-laid, turn-place, turn-table)
+pub ruleset asked-kit = (asked-bit, asked-long, asked-begin, asked-few, made-all, made-found)

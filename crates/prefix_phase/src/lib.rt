@@ -2,120 +2,163 @@
 ghost use Prim.Native.Nat.{_<_, _≤_};
 ghost use lib.ListN.{length};
 ghost use Rattle.log_buffer.specs.Meaning.{logOf, stepsIn};
-ghost use Rattle.pattern_buffer.specs.Meaning.{automatonOf, patternOf};
-ghost use Rattle.step_table.specs.Table.{Tabled};
-ghost use Rattle.passes.specs.Passes.{Earlier};
-ghost use Rattle.marking.specs.Marking.{Added};
-ghost use Rattle.prefix_phase.specs.Marked.{Tried, Turns, TurnOf, TableAt, Marks, satisfiesFrom, servesFrom, Unmarked};
+ghost use Rattle.pattern_buffer.specs.Meaning.{patternOf};
+ghost use Rattle.log_links.specs.Links.{LastTo};
+ghost use Rattle.hope.specs.Hope.{Hopes};
+ghost use Rattle.lanes.specs.Lanes.{workLength};
+ghost use Rattle.serving.specs.Serving.{Asked, FoundIn};
+ghost use Rattle.prefix_phase.specs.Marked.{Tried, Turns, TurnMade, Marks, Unmarked};
 
-// Adds the bead to the prefixes of the steps on which it holds from u: one forward pass.
+// One pass from the next candidates: sixteen for ALL, which asks each of them by itself; all of them for SOME.
 fn pass_from(
     pattern: &[u16],
     log: &[u16],
     bead: usize,
-    u: usize,
+    from: usize,
     n: usize,
-    prefixes: &mut [u16],
-    work: &[u16],
-)
-    requires { ⌜ TurnOf (now pattern) (now log) n bead u ⌝ }
-    requires { ⌜ Tabled (logOf (now log)) (automatonOf (now pattern) bead) (stepsIn (now log)) (now work) ⌝ }
-    requires { ⌜ (1024 ≤ length (now prefixes)) × (16384 ≤ length (now work)) ⌝ }
-    ensures { λ _. ⌜ Added (satisfiesFrom (logOf (now (log .entry))) (patternOf (now (pattern .entry))) bead u) bead u n (now (prefixes .entry)) (now (prefixes .exit)) ⌝ }
+    hopes: &[u16],
+    last: &[u16],
+    prefixes: &[u16],
+    found: &mut [u16],
+    work: &mut [u16],
+) -> usize
+    requires { ⌜ Asked (now pattern) (now log) n bead from (now prefixes) (now hopes) (now last) ⌝ }
+    requires { ⌜ (8 ≤ length (now hopes)) × (1024 ≤ length (now last)) × (1024 ≤ length (now prefixes)) ⌝ }
+    requires { ⌜ (1024 ≤ length (now found)) × (workLength ≤ length (now work)) ⌝ }
+    ensures { λ r. ⌜ FoundIn (now (pattern .entry)) (now (log .entry)) n bead from r (now (found .exit)) ⌝ }
 {
-    let mut states = [0u16; 1024];
-    forward::forward_pass(log, work, u, &mut states);
-    marking::mark_reached(pattern, bead, u, n, &states, prefixes);
+    let mut seeds = [0u16; 1024];
+    if pattern[2 + bead] == 2 {
+        return serving::sixteen_from(
+            pattern,
+            log,
+            bead,
+            from,
+            n,
+            hopes,
+            last,
+            prefixes,
+            &mut seeds,
+            found,
+            work,
+        );
+    }
+    serving::all_from(
+        pattern,
+        log,
+        bead,
+        from,
+        n,
+        hopes,
+        last,
+        prefixes,
+        &mut seeds,
+        found,
+        work,
+    )
 }
 
-// The same, without a pass where every later step has the bead already.
+// Adds the bead to the prefixes of the steps before which one of the next candidates serves.
+fn mark_pass(
+    pattern: &[u16],
+    log: &[u16],
+    bead: usize,
+    from: usize,
+    n: usize,
+    hopes: &[u16],
+    last: &[u16],
+    prefixes: &mut [u16],
+    work: &mut [u16],
+) -> usize
+    requires { ⌜ Asked (now pattern) (now log) n bead from (now prefixes) (now hopes) (now last) ⌝ }
+    requires { ⌜ (8 ≤ length (now hopes)) × (1024 ≤ length (now last)) × (1024 ≤ length (now prefixes)) × (workLength ≤ length (now work)) ⌝ }
+    ensures { λ r. ⌜ TurnMade (now (pattern .entry)) (now (log .entry)) n bead from r (now (prefixes .entry)) (now (prefixes .exit)) ⌝ }
+{
+    let mut found = [0u16; 1024];
+    let to = pass_from(
+        pattern,
+        log,
+        bead,
+        from,
+        n,
+        hopes,
+        last,
+        prefixes,
+        &mut found,
+        work,
+    );
+    marking::mark_found(bead, from, n, &found, prefixes);
+    to
+}
+
+// The same, without a pass where every later step has the bead already: then no candidate is left to look at.
 fn mark_from(
     pattern: &[u16],
     log: &[u16],
     bead: usize,
-    u: usize,
+    from: usize,
     n: usize,
+    hopes: &[u16],
+    last: &[u16],
     prefixes: &mut [u16],
-    work: &[u16],
-)
-    requires { ⌜ TurnOf (now pattern) (now log) n bead u ⌝ }
-    requires { ⌜ Tabled (logOf (now log)) (automatonOf (now pattern) bead) (stepsIn (now log)) (now work) ⌝ }
-    requires { ⌜ (1024 ≤ length (now prefixes)) × (16384 ≤ length (now work)) ⌝ }
-    ensures { λ _. ⌜ Added (satisfiesFrom (logOf (now (log .entry))) (patternOf (now (pattern .entry))) bead u) bead u n (now (prefixes .entry)) (now (prefixes .exit)) ⌝ }
+    work: &mut [u16],
+) -> usize
+    requires { ⌜ Asked (now pattern) (now log) n bead from (now prefixes) (now hopes) (now last) ⌝ }
+    requires { ⌜ (8 ≤ length (now hopes)) × (1024 ≤ length (now last)) × (1024 ≤ length (now prefixes)) × (workLength ≤ length (now work)) ⌝ }
+    ensures { λ r. ⌜ TurnMade (now (pattern .entry)) (now (log .entry)) n bead from r (now (prefixes .entry)) (now (prefixes .exit)) ⌝ }
 {
-    let done = marking::all_marked(bead, u, n, prefixes);
+    let done = marking::all_marked(bead, from, n, prefixes);
     if done {
-        return;
+        return n;
     }
-    pass_from(pattern, log, bead, u, n, prefixes, work);
+    mark_pass(pattern, log, bead, from, n, hopes, last, prefixes, work)
 }
 
-// Adds the bead to the prefixes of the steps before which u serves as the pivot: none, unless the earlier beads hold at u.
-fn mark_served(
-    pattern: &[u16],
-    log: &[u16],
-    bead: usize,
-    u: usize,
-    n: usize,
-    prefixes: &mut [u16],
-    work: &[u16],
-)
-    requires { ⌜ TurnOf (now pattern) (now log) n bead u ⌝ }
-    requires { ⌜ Earlier (logOf (now log)) (patternOf (now pattern)) bead (stepsIn (now log)) (now prefixes) ⌝ }
-    requires { ⌜ Tabled (logOf (now log)) (automatonOf (now pattern) bead) (stepsIn (now log)) (now work) ⌝ }
-    requires { ⌜ (1024 ≤ length (now prefixes)) × (16384 ≤ length (now work)) ⌝ }
-    ensures { λ _. ⌜ Added (servesFrom (logOf (now (log .entry))) (patternOf (now (pattern .entry))) bead u) bead u n (now (prefixes .entry)) (now (prefixes .exit)) ⌝ }
-{
-    let earlier = passes::prefix_at(prefixes, bead, u);
-    if earlier {
-        mark_from(pattern, log, bead, u, n, prefixes, work);
-    }
-}
-
-// The step table of the bead: made at its first turn, and at hand at the others.
-fn table_for(pattern: &[u16], log: &[u16], bead: usize, u: usize, n: usize, work: &mut [u16])
-    requires { ⌜ TurnOf (now pattern) (now log) n bead u ⌝ }
-    requires { ⌜ TableAt (now pattern) (now log) bead u (now work) ⌝ }
-    requires { ⌜ 16384 ≤ length (now work) ⌝ }
-    ensures { λ _. ⌜ Tabled (logOf (now (log .entry))) (automatonOf (now (pattern .entry)) bead) (stepsIn (now (log .entry))) (now (work .exit)) ⌝ }
-{
-    if u == 0 {
-        step_table::fill_table(pattern, log, bead, work);
-    }
-}
-
-// Marks the prefixes in turns: beads upwards and, for each bead, starting steps upwards.
+// Marks the prefixes in turns: beads upwards and, for each bead, candidates upwards. Of the count of turns, i / n is the bead and i % n the
+// first candidate not looked at.
 fn mark_turns(
     pattern: &[u16],
     log: &[u16],
     n: usize,
     turns: usize,
+    hopes: &[u16],
+    last: &[u16],
     prefixes: &mut [u16],
     work: &mut [u16],
 )
     requires { ⌜ Turns (now pattern) (now log) n turns ⌝ }
+    requires { ⌜ Hopes (now pattern) (now hopes) ⌝ }
+    requires { ⌜ LastTo (now log) (stepsIn (now log)) (now last) ⌝ }
     requires { ⌜ Unmarked (now prefixes) ⌝ }
-    requires { ⌜ (1024 ≤ length (now prefixes)) × (16384 ≤ length (now work)) ⌝ }
+    requires { ⌜ (8 ≤ length (now hopes)) × (1024 ≤ length (now last)) × (1024 ≤ length (now prefixes)) × (workLength ≤ length (now work)) ⌝ }
     ensures { λ _. ⌜ Marks (logOf (now (log .entry))) (patternOf (now (pattern .entry))) (stepsIn (now (log .entry))) (now (prefixes .exit)) ⌝ }
 {
     let mut i = 0;
     while i < turns {
         let k = i / n;
-        let u = i % n;
-        table_for(pattern, log, k, u, n, work);
-        mark_served(pattern, log, k, u, n, prefixes, work);
-        i += 1;
+        let from = i % n;
+        let to = mark_from(pattern, log, k, from, n, hopes, last, prefixes, work);
+        i = k * n + to;
     }
 }
 
 // Marks the prefixes that hold at each step.
-pub fn mark_prefixes(pattern: &[u16], log: &[u16], prefixes: &mut [u16], work: &mut [u16])
+pub fn mark_prefixes(
+    pattern: &[u16],
+    log: &[u16],
+    hopes: &[u16],
+    last: &[u16],
+    prefixes: &mut [u16],
+    work: &mut [u16],
+)
     requires { ⌜ Tried (now pattern) (now log) ⌝ }
+    requires { ⌜ Hopes (now pattern) (now hopes) ⌝ }
+    requires { ⌜ LastTo (now log) (stepsIn (now log)) (now last) ⌝ }
     requires { ⌜ Unmarked (now prefixes) ⌝ }
-    requires { ⌜ (1024 ≤ length (now prefixes)) × (16384 ≤ length (now work)) ⌝ }
+    requires { ⌜ (8 ≤ length (now hopes)) × (1024 ≤ length (now last)) × (1024 ≤ length (now prefixes)) × (workLength ≤ length (now work)) ⌝ }
     ensures { λ _. ⌜ Marks (logOf (now (log .entry))) (patternOf (now (pattern .entry))) (stepsIn (now (log .entry))) (now (prefixes .exit)) ⌝ }
 {
     let beads = lists::wide(pattern[1]);
     let n = lists::wide(log[0]);
-    mark_turns(pattern, log, n, beads * n, prefixes, work);
+    mark_turns(pattern, log, n, beads * n, hopes, last, prefixes, work);
 }

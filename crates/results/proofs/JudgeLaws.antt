@@ -17,9 +17,11 @@ use Rattle.log_buffer.specs.Meaning.{logOf, stepsIn}
 use Rattle.pattern_buffer.specs.Meaning.{beadsIn, labelsIn, patternOf}
 use Rattle.pattern_buffer.proofs.Meaning.{pattern-well-formed}
 use Rattle.pattern_buffer.proofs.Places.{passes-out}
-use Rattle.passes.proofs.Facts.{laid}
+use Rattle.log_links.specs.Links.{Laid}
+use Rattle.log_links.proofs.LinkLaws.{laid}
+use Rattle.prefix_phase.proofs.MarkLaws.{all-beads}
 use Rattle.prefix_phase.specs.Marked.{Tried, Unmarked, Marks}
-use Rattle.walk_phase.specs.Walked.{WalkedDownTo}
+use Rattle.walk_phase.specs.Walked.{WalkedBack}
 use Rattle.results.specs.Limits.{resultLength, rowLength}
 use Rattle.results.specs.Result.{rowsUpTo, wholeUpTo, rowsOf}
 use Rattle.results.specs.Arrays.{resultFrom, Sized}
@@ -65,7 +67,7 @@ module _ (pattern log : List ℕ) (beads n : ℕ) (s : Sized pattern log beads n
       e ∙ ap₂ (λ (b v : ℕ). wholeFrom b prefixes v) (s .beads-are) (s .steps-are)
       ∙ counted (logOf log) (patternOf pattern) some (stepsIn log) prefixes m (stepsIn log) (omega arith)
 
-  pub result-judged : (pivots l last : List ℕ) → WalkedDownTo (logOf log) (patternOf pattern) (stepsIn log) 0 pivots
+  pub result-judged : (pivots l last : List ℕ) → WalkedBack (logOf log) (patternOf pattern) (stepsIn log) pivots
       → last ≡ resultFrom beads prefixes pivots n l → last ≡ rowsOf (logOf log) (patternOf pattern) ++ drop 10240 l
   unfolding patternOf logOf
   result-judged pivots l last w e =
@@ -96,6 +98,11 @@ module _ (pattern log : List ℕ) (t : Tried pattern log) where
 -- The work buffer is all zeros once it is cleared.
 pub work-cleared : (old mid last : List ℕ) → length mid ≡ length old → last ≡ replicate (length mid) 0 → last ≡ replicate (length old) 0
 work-cleared old mid last n e = e ∙ ap (λ (k : ℕ). replicate k 0) n
+
+pub tried-laid : (pattern log : List ℕ) → Tried pattern log → Laid log
+tried-laid pattern log t = laid (labelsIn pattern) log (t .is-log)
+
+pub ruleset all-kit = (all-beads, tried-laid)
 
 pub ruleset tried-kit = (sized, pattern-there, log-there, work-cleared)
 

@@ -16,7 +16,7 @@ use Rattle.rows.specs.Rows.{pivotAt, rowFrom, rowsFrom, wholeFrom}
 use Rattle.rows.proofs.Meaning.{row-is}
 use Rattle.results.specs.Result.{rowsUpTo, wholeUpTo}
 use Rattle.prefix_phase.specs.Marked.{Marks}
-use Rattle.walk_phase.specs.Walked.{WalkedDownTo}
+use Rattle.walk_phase.specs.Walked.{WalkedBack}
 use Rattle.walk_phase.proofs.WalkBack.{pivot-is}
 
 module _ (G : Dag) (P : Pattern) (some : 1 ≤ P .count) (n : ℕ) (sets : List ℕ) (m : Marks G P n sets) where
@@ -31,12 +31,12 @@ module _ (G : Dag) (P : Pattern) (some : 1 ≤ P .count) (n : ℕ) (sets : List 
   counted zero h = refl
   counted (suc k) h = ap₂ (λ (x : ℕ) (b : Bool). x + cond b 1 0) (counted k (omega arith)) (whole-is k (omega arith))
 
-  module _ (few : P .count ≤ 8) (places : List ℕ) (w : WalkedDownTo G P n 0 places) where
+  module _ (few : P .count ≤ 8) (places : List ℕ) (w : WalkedBack G P n places) where
     -- What is put down for a vertex at which the whole pattern holds are its pivots.
     pub pivots-are : (k v : ℕ) → k ≤ P .count → v < n → T (holds? G P (P .count) v) → getD places (pivotAt k v) 0 ≡ getD (pivots G P (P .count) v) k 0
     pivots-are k v h l t =
         let e : k + (P .count - k) ≡ P .count = omega arith in
-        w .places k v h l (omega arith) t ∙ sym (ap (λ (j : ℕ). getD (pivots G P j v) k 0) (sym e) ∙ pivot-is G P k (P .count - k) v)
+        w .places k v h l t ∙ sym (ap (λ (j : ℕ). getD (pivots G P j v) k 0) (sym e) ∙ pivot-is G P k (P .count - k) v)
 
     pub rows-are : (k : ℕ) → k ≤ n → rowsFrom (P .count) sets places k ≡ rowsUpTo G P k
     unfolding rowsFrom rowsUpTo

@@ -14,7 +14,7 @@ use lib.Count.{ones, onesIn, ones-cat, ones-step}
 use lib.Dec.{T, eqb, ltb, leb, eqb→eq, eqb-refl, ltb→lt, lt→ltb, leb→le, T-not, not-T, eqb·suc-zero, eqb·zero-suc, eqb·suc-suc}
 use lib.ListN.{length}
 use lib.Pow.{ones-sub-lt, pow-lt, pow-mono, pow-pos, shr-shr}
-use Rattle.sets.specs.Sets.{_∈_, member, setOf, singleton, union, complement, Overlap, Within, Single}
+use Rattle.sets.specs.Sets.{_∈_, member, setOf, singleton, union, intersection, complement, Overlap, Within, Single}
 use Rattle.sets.specs.Sets.{someBelow, overlaps, within, consIf, membersFrom, members, single}
 use Rattle.sets.proofs.Truth.{or-l, or-r, or-cases, and-i, and-l, and-r, same, decide, no-false, false-no}
 use Rattle.sets.proofs.Bits.{digit-ext, member-or, member-and, member-zero, member-add, member-suc, member-empty, member-mod, member-mirror}
@@ -107,7 +107,7 @@ member-setOf (suc n) f i h = member-put n i (setOf n f) (f n) (setOf-below n f) 
 pub setOf-members : (n s : ℕ) → s < 2 ^ n → setOf n (λ i. member i s) ≡ s
 setOf-members n s h = ext n (setOf n (λ i. member i s)) s (setOf-below n (λ i. member i s)) h (λ i l. member-setOf n (λ i. member i s) i l)
 
--- ---- union, complement
+-- ---- union, intersection, complement
 
 pub union-below : (n s t : ℕ) → union n s t < 2 ^ n
 union-below n s t = setOf-below n (λ i. member i s || member i t)
@@ -119,6 +119,16 @@ member-union n s t i h = member-setOf n (λ i. member i s || member i t) i h
 pub union-is : (n s t : ℕ) → s < 2 ^ n → t < 2 ^ n → bitOr s t ≡ union n s t
 union-is n s t hs ht =
     ext n (bitOr s t) (union n s t) (or-lt n s t hs ht) (union-below n s t) (λ i l. member-or i s t ∙ sym (member-union n s t i l))
+
+pub member-intersection : (n s t i : ℕ) → i < n → member i (intersection n s t) ≡ (member i s && member i t)
+member-intersection n s t i h = member-setOf n (λ i. member i s && member i t) i h
+
+-- the machine's `&`
+pub intersection-is : (n s t : ℕ) → s < 2 ^ n → bitAnd s t ≡ intersection n s t
+intersection-is n s t hs =
+    ext n (bitAnd s t) (intersection n s t)
+    (within-below n (bitAnd s t) (λ i y. below-within n s hs i (and-l (member i s) (member i t) (subst T (member-and i s t) y))))
+    (setOf-below n (λ i. member i s && member i t)) (λ i l. member-and i s t ∙ sym (member-intersection n s t i l))
 
 pub complement-below : (n s : ℕ) → complement n s < 2 ^ n
 complement-below n s = setOf-below n (λ i. not (member i s))
@@ -203,6 +213,21 @@ overlaps-iff n s t h = (forth, back)
     back o =
         someBelow-in n (λ i. member i s && member i t) (o .common) (below-within n s h (o .common) (o .left))
         (and-i (member (o .common) s) (member (o .common) t) (o .left) (o .right))
+
+-- with the set of one number
+pub overlaps-singleton : (n s i : ℕ) → i < n → overlaps n s (singleton i) ≡ member i s
+overlaps-singleton n s i h = same (overlaps n s (singleton i)) (member i s) forth back
+  where
+    forth : T (overlaps n s (singleton i)) → T (member i s)
+    forth y =
+        let r = someBelow-out n (λ k. member k s && member k (singleton i)) y in
+        let one = subst T (member-singleton (r .0) i) (and-r (member (r .0) s) (member (r .0) (singleton i)) (r .2)) in
+        subst (λ (k : ℕ). T (member k s)) (eqb→eq (r .0) i one) (and-l (member (r .0) s) (member (r .0) (singleton i)) (r .2))
+
+    back : T (member i s) → T (overlaps n s (singleton i))
+    back y =
+        someBelow-in n (λ k. member k s && member k (singleton i)) i h
+        (and-i (member i s) (member i (singleton i)) y (subst T (sym (member-singleton i i)) (eqb-refl i)))
 
 -- the machine's `&`, against 0
 pub overlaps-is : (n s t : ℕ) → s < 2 ^ n → not (eqb (bitAnd s t) 0) ≡ overlaps n s t
@@ -365,6 +390,7 @@ pub ruleset gathering = (setOf-none, setOf-put, setOf-skip, setOf-end)
 -- for the functions of this crate
 pub ruleset kit = (
   union-is,
+  intersection-is,
   overlaps-is,
   single-count,
   within-is,

@@ -31,6 +31,10 @@ singleton i = 2 ^ i
 abbrev pub union : ℕ → ℕ → ℕ → ℕ
 union n s t = setOf n (λ i. member i s || member i t)
 
+-- The members of both sets.
+abbrev pub intersection : ℕ → ℕ → ℕ → ℕ
+intersection n s t = setOf n (λ i. member i s && member i t)
+
 -- The numbers below n that are not members of s.
 abbrev pub complement : ℕ → ℕ → ℕ
 complement n s = setOf n (λ i. not (member i s))

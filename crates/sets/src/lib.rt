@@ -2,7 +2,7 @@
 // Callers reason by the laws of proofs/Laws.antt and not by bits.
 ghost use mathlib.Core.Path.{_≡_};
 ghost use Prim.Native.Nat.{_<_, _≤_};
-ghost use Rattle.sets.specs.Sets.{member, singleton, union, complement, overlaps, within, single};
+ghost use Rattle.sets.specs.Sets.{member, singleton, union, intersection, complement, overlaps, within, single};
 
 // Is i a member of s?
 pub fn member(s: u16, i: u16) -> bool
@@ -44,6 +44,13 @@ pub fn union(s: u16, t: u16) -> u16
     ensures { λ r. ⌜ r ≡ union 16 s t ⌝ }
 {
     s | t
+}
+
+// The members of both sets.
+pub fn intersection(s: u16, t: u16) -> u16
+    ensures { λ r. ⌜ r ≡ intersection 16 s t ⌝ }
+{
+    s & t
 }
 
 // The numbers below n that are not members of s.

@@ -1,3 +1,4 @@
 pub mod WalkBack
 pub mod WalkPhase
 pub mod WalkLaws
+pub mod TurnLaws

@@ -12,7 +12,7 @@ use Rattle.necklace.specs.Necklace.{Pattern}
 use Rattle.necklace.specs.Compute.{before, pivots, holds?}
 use Rattle.necklace.proofs.RowMeaning.{pivots-length}
 use Rattle.necklace.proofs.Prefixes.{before-holds, before-le}
-use Rattle.passes.specs.Passes.{pivotBack}
+use Rattle.walk_phase.specs.Walked.{pivotBack}
 
 module _ (G : Dag) (P : Pattern) where
   pub back-none : (k v : ℕ) → pivotBack G P k zero v ≡ v

@@ -1,62 +1,25 @@
--- The second phase: the walk back over the beads, for every vertex at which the whole pattern holds; and in it the search for the
--- smallest candidate that serves.
+-- The second phase: what stands at the places of the pivots, turn by turn.
 -- Assumes nothing.
-use Prim.Native.Nat.{ℕ, zero, suc, _+_, _-_, _*_, _/_, _%_, _^_, _≤_, _<_}
-use mathlib.Core.Path.{_≡_, refl, sym, ap, ap₂, _∙_, subst}
+use Prim.Native.Nat.{ℕ, zero, suc, _+_, _-_, _*_, _/_, _%_, _≤_, _<_, min}
+use mathlib.Core.Path.{_≡_, refl, sym, ap, _∙_, subst}
 use mathlib.Core.Bool.{Bool, true, false, cond}
 use mathlib.Core.List.{List}
-use native.Mathlib.Nat.{div-add-mod', mod-lt, suc-mul}
+use native.Mathlib.Nat.{suc-mul, mul-le-mul-right}
 use native.Mathlib.Decide.{ℕ-discrete, decLt}
-use native.Mathlib.Numerals.{add-one}
 use native.Mathlib.Omega.{arith}
-use lib.Arith.{digits-div, digits-mod, digits-lt}
-use lib.Dec.{T}
+use borrow.Author.Tests.{lt-ltb, le-ltb}
+use lib.Dec.{T, ltb}
 use lib.ListN.{length, getD, set}
 use lib.Seq.{getD-set-same, getD-set-other}
-use Rattle.sets.proofs.Truth.{false-no}
+use Rattle.sets.proofs.Truth.{true-yes, yes-true, no-false, false-no}
 use Rattle.necklace.specs.Dag.{Dag}
 use Rattle.necklace.specs.Necklace.{Pattern}
-use Rattle.necklace.specs.Compute.{holds?, serves?, seek, before}
-use Rattle.necklace.proofs.Prefixes.{seek-stop, seek-on, seek-end}
-use Rattle.passes.specs.Passes.{Flagged, pivotBack}
+use Rattle.necklace.specs.Compute.{holds?, serves?, before}
+use Rattle.necklace.proofs.Prefixes.{First, before-first}
 use Rattle.rows.specs.Rows.{pivotAt}
-use Rattle.walk_phase.specs.Walked.{WalkedDownTo}
-use Rattle.walk_phase.proofs.WalkBack.{back-none, back-more, back-holds}
 use Rattle.prefix_phase.proofs.PrefixPhase.{one-turn}
-
--- ---- the search over candidates
-
--- The smallest candidate from u on.
-pub searchFrom : Dag → Pattern → ℕ → ℕ → ℕ → ℕ
-searchFrom G P k p u = seek (serves? G P k p) (suc p - u) u
-
-module _ (G : Dag) (P : Pattern) (k p : ℕ) where
-  pub search-start : before G P k p ≡ searchFrom G P k p 0
-  unfolding before searchFrom
-  search-start = let e : suc p ≡ suc p - 0 = omega arith in ap (λ (d : ℕ). seek (serves? G P k p) d 0) e
-
-  module _ (flags : List ℕ) (g : Flagged G P k p flags) (u : ℕ) where
-    pub search-found : u ≤ p → getD flags u 0 ≡ 1 → before G P k p ≡ searchFrom G P k p u → u ≡ before G P k p
-    unfolding searchFrom
-    search-found h e inv = sym (inv ∙ seek-stop (serves? G P k p) (suc p) u (omega arith) (served (serves? G P k p u) (sym (g .flag u h) ∙ e)))
-      where
-        served : (b : Bool) → _≡_ {A = ℕ} (cond b 1 0) 1 → b ≡ true
-        served true q = refl
-        served false q = absurd (omega arith)
-
-    pub search-on : u ≤ p → (getD flags u 0 ≡ 1 → ⊥) → before G P k p ≡ searchFrom G P k p u → before G P k p ≡ searchFrom G P k p (u + 1)
-    unfolding searchFrom
-    search-on h e inv = inv ∙ sym (seek-on (serves? G P k p) (suc p) u (omega arith) (unserved (serves? G P k p u) (λ q. e (g .flag u h ∙ q))))
-      where
-        unserved : (b : Bool) → (_≡_ {A = ℕ} (cond b 1 0) 1 → ⊥) → b ≡ false
-        unserved true f = absurd (f refl)
-        unserved false f = refl
-
-  pub search-end : (u : ℕ) → p < u → before G P k p ≡ searchFrom G P k p u → u ≡ before G P k p
-  unfolding searchFrom
-  search-end u h inv = sym (inv ∙ seek-end (serves? G P k p) (suc p) u h)
-
--- ---- the walk
+use Rattle.walk_phase.specs.Walked.{pivotBack, pivotOf, sought, looked, WalkedTo, WalkedIn, WalkedBack}
+use Rattle.walk_phase.proofs.WalkBack.{back-none, back-more, back-holds}
 
 -- A vertex's place among the pivots of a bead is no other's.
 one-place : (j w k v : ℕ) → w < 1024 → v < 1024 → pivotAt j w ≡ pivotAt k v → (j ≡ k) × (w ≡ v)
@@ -64,79 +27,245 @@ one-place j w k v h l e =
     let q : j * 1024 + w ≡ k * 1024 + v = omega arith in
     one-turn 1024 j w k v h l q
 
-module _ (G : Dag) (P : Pattern) (n : ℕ) (small : n ≤ 1024) (pivots : List ℕ) where
-  -- Before the walk the last pivot of each vertex is the vertex itself.
-  pub walked-none : (i : ℕ) → i ≡ P .count * n → ((v : ℕ) → v < n → getD pivots (pivotAt (P .count) v) 0 ≡ v) → WalkedDownTo G P n i pivots
-  walked-none i e z = record { places = λ k v c l h t. go k v c l h (decLt k (P .count)) }
+-- ---- how many candidates have been looked at
+
+module _ (c n s j : ℕ) where
+  looked-none : s ≤ (c - suc j) * n → looked c n s j ≡ 0
+  unfolding looked
+  looked-none h = omega arith
+
+  looked-all : (c - suc j) * n + n ≤ s → looked c n s j ≡ n
+  unfolding looked
+  looked-all h = omega arith
+
+  looked-some : (u : ℕ) → s ≡ (c - suc j) * n + u → u ≤ n → looked c n s j ≡ u
+  unfolding looked
+  looked-some u e h = omega arith
+
+-- a bead after another is done before it begins
+row-up : (c n j k : ℕ) → k < j → j < c → (c - suc j) * n + n ≤ (c - suc k) * n
+row-up c n j k h l =
+    let q : suc (c - suc j) * n ≤ (c - suc k) * n = mul-le-mul-right n (let z : suc (c - suc j) ≤ c - suc k = omega arith in z) in
+    let r = suc-mul (c - suc j) n in
+    omega arith
+
+module _ (G : Dag) (P : Pattern) (n : ℕ) where
+  -- ---- the pivots of a vertex
+
+  module _ (v : ℕ) (t : T (holds? G P (P .count) v)) where
+    back-at : (j : ℕ) → j ≤ P .count → T (holds? G P j (pivotOf G P j v)) × (pivotOf G P j v ≤ v)
+    unfolding pivotOf
+    back-at j h = let e : P .count ≡ j + (P .count - j) = omega arith in back-holds G P j (P .count - j) v (subst (λ (k : ℕ). T (holds? G P k v)) e t)
+
+    pub pivot-last : pivotOf G P (P .count) v ≡ v
+    unfolding pivotOf
+    pivot-last = let e : P .count - P .count ≡ 0 = omega arith in ap (λ (d : ℕ). pivotBack G P (P .count) d v) e ∙ back-none G P (P .count) v
+
+    pub pivot-le : (j : ℕ) → j ≤ P .count → pivotOf G P j v ≤ v
+    pivot-le j h = back-at j h .1
+
+    -- a pivot is the smallest that serves before the next
+    pub pivot-first : (j : ℕ) → j < P .count → First (serves? G P j (pivotOf G P (suc j) v)) 0 (pivotOf G P j v)
+    unfolding pivotOf
+    pivot-first j h =
+        let e : P .count - j ≡ suc (P .count - suc j) = omega arith in
+        subst (λ (u : ℕ). First (serves? G P j (pivotOf G P (suc j) v)) 0 u)
+        (sym (ap (λ (d : ℕ). pivotBack G P j d v) e ∙ back-more G P j (P .count - suc j) v))
+        (before-first G P j (pivotOf G P (suc j) v) (back-at (suc j) h .0))
+
+  -- ---- what stands at a place
+
+  module _ (j u v : ℕ) where
+    sought-fails : holds? G P (P .count) v ≡ false → sought G P n j u v ≡ 0
+    unfolding sought
+    sought-fails e = rw e refl
+
+    sought-found : holds? G P (P .count) v ≡ true → pivotOf G P j v < u → sought G P n j u v ≡ pivotOf G P j v
+    unfolding sought
+    sought-found e h = rw (e, lt-ltb (pivotOf G P j v) u h) refl
+
+    sought-open : holds? G P (P .count) v ≡ true → u ≤ pivotOf G P j v → sought G P n j u v ≡ n
+    unfolding sought
+    sought-open e h = rw (e, le-ltb (pivotOf G P j v) u h) refl
+
+    -- it is n just while v searches
+    pub sought-n : j ≤ P .count → v < n → sought G P n j u v ≡ n → T (holds? G P (P .count) v) × (u ≤ pivotOf G P j v)
+    sought-n c l e = go (holds? G P (P .count) v) refl
+      where
+        rest : T (holds? G P (P .count) v) → Dec (pivotOf G P j v < u) → u ≤ pivotOf G P j v
+        rest t (yes h) = let z = sought-found (yes-true (holds? G P (P .count) v) t) h in let k = pivot-le v t j c in absurd (omega arith)
+        rest t (no h) = omega arith
+
+        go : (b : Bool) → holds? G P (P .count) v ≡ b → T (holds? G P (P .count) v) × (u ≤ pivotOf G P j v)
+        go true h = let t = true-yes (holds? G P (P .count) v) h in (t, rest t (decLt (pivotOf G P j v) u))
+        go false h = let z = sought-fails h in absurd (omega arith)
+
+  -- two counts of candidates between which no pivot lies leave the same
+  sought-same : (j u w v : ℕ) → u ≤ w → (T (holds? G P (P .count) v) → u ≤ pivotOf G P j v → w ≤ pivotOf G P j v) → sought G P n j u v ≡ sought G P n j w v
+  sought-same j u w v h f = go (holds? G P (P .count) v) refl
     where
-      go : (k v : ℕ) → k ≤ P .count → v < n → i ≤ k * n + v → Dec (k < P .count) → getD pivots (pivotAt k v) 0 ≡ pivotBack G P k (P .count - k) v
-      go k v c l h (yes d) = let q : k * n + v < P .count * n = digits-lt d l in absurd (omega arith)
-      go k v c l h (no d) =
-          let q : k ≡ P .count = last c d in
-          let o : P .count - k ≡ 0 = omega arith in
-          ap (λ (j : ℕ). getD pivots (pivotAt j v) 0) q ∙ z v l ∙ sym (ap (λ (m : ℕ). pivotBack G P k m v) o ∙ back-none G P k v)
+      at : holds? G P (P .count) v ≡ true → Dec (pivotOf G P j v < u) → sought G P n j u v ≡ sought G P n j w v
+      at e (yes l) = sought-found j u v e l ∙ sym (sought-found j w v e (omega arith))
+      at e (no l) = sought-open j u v e (omega arith) ∙ sym (sought-open j w v e (f (true-yes (holds? G P (P .count) v) e) (omega arith)))
+
+      go : (b : Bool) → holds? G P (P .count) v ≡ b → sought G P n j u v ≡ sought G P n j w v
+      go true e = at e (decLt (pivotOf G P j v) u)
+      go false e = sought-fails j u v e ∙ sym (sought-fails j w v e)
+
+  -- ---- a turn: of the bead at place k, and the candidates from `from` on and below `to`
+
+  module _ (t k from to : ℕ) (bead : k < P .count) (turn : t ≡ (P .count - suc k) * n + from) (start : from < n) (some : from < to) (most : to ≤ n) where
+    others-same : (j : ℕ) → j < P .count → (j ≡ k → ⊥) → looked (P .count) n t j ≡ looked (P .count) n (t + (to - from)) j
+    others-same j l e = go (decLt k j) (decLt j k)
+      where
+        go : Dec (k < j) → Dec (j < k) → looked (P .count) n t j ≡ looked (P .count) n (t + (to - from)) j
+        go (yes h) d =
+            let q = row-up (P .count) n j k h l in
+            looked-all (P .count) n t j (omega arith) ∙ sym (looked-all (P .count) n (t + (to - from)) j (omega arith))
+        go (no h) (yes d) =
+            let q = row-up (P .count) n k j d bead in
+            looked-none (P .count) n t j (omega arith) ∙ sym (looked-none (P .count) n (t + (to - from)) j (omega arith))
+        go (no h) (no d) = absurd (e (omega arith))
+
+    pub walk-in : (pivots : List ℕ) → WalkedTo G P n t pivots → WalkedIn G P n t k from to from pivots
+    walk-in pivots w = record {
+      last = w .last;
+      others = λ j v c e l. w .places j v c l;
+      past = λ v h l. own v l ∙ sought-same k from to v (omega arith) (λ s z. let q = pivot-le v s k (omega arith) in absurd (omega arith));
+      rest = λ v h l. own v l;
+    }
+      where
+        own : (v : ℕ) → v < n → getD pivots (pivotAt k v) 0 ≡ sought G P n k from v
+        own v l = w .places k v bead l ∙ ap (λ (u : ℕ). sought G P n k u v) (looked-some (P .count) n t k from turn (omega arith))
+
+    pub walk-out : (v : ℕ) (pivots : List ℕ) → n ≤ v → WalkedIn G P n t k from to v pivots → WalkedTo G P n (t + (to - from)) pivots
+    walk-out v pivots h w = record { last = w .last; places = λ j u c l. go j u c l (ℕ-discrete j k) }
+      where
+        go : (j u : ℕ) → j < P .count → u < n → Dec (j ≡ k) → getD pivots (pivotAt j u) 0 ≡ sought G P n j (looked (P .count) n (t + (to - from)) j) u
+        go j u c l (yes e) =
+            rw e (w .past u (omega arith) l ∙ ap (λ (x : ℕ). sought G P n k x u) (sym (looked-some (P .count) n (t + (to - from)) k to (omega arith) most)))
+        go j u c l (no e) = w .others j u c e l ∙ ap (λ (x : ℕ). sought G P n j x u) (others-same j c e)
+
+    module _ (v : ℕ) (inside : v < n) (small : n ≤ 1024) (pivots : List ℕ) (w : WalkedIn G P n t k from to v pivots) where
+      -- the target of v is the pivot picked last
+      next-place : T (holds? G P (P .count) v) → getD pivots (pivotAt (k + 1) v) 0 ≡ pivotOf G P (suc k) v
+      next-place s = go (ℕ-discrete (suc k) (P .count))
         where
-          last : k ≤ P .count → (k < P .count → ⊥) → k ≡ P .count
-          last c d = omega arith
+          place : pivotAt (k + 1) v ≡ pivotAt (suc k) v
+          place = omega arith
 
-  module _ (i : ℕ) (w : WalkedDownTo G P n (i + 1) pivots) (some : 0 < n) where
-    turn : i ≡ i / n * n + i % n
-    turn = sym (div-add-mod' i n)
+          go : Dec (suc k ≡ P .count) → getD pivots (pivotAt (k + 1) v) 0 ≡ pivotOf G P (suc k) v
+          go (yes e) =
+              ap (λ (i : ℕ). getD pivots i 0) place ∙ ap (λ (j : ℕ). getD pivots (pivotAt j v) 0) e ∙ w .last v inside
+              ∙ sym (ap (λ (j : ℕ). pivotOf G P j v) e ∙ pivot-last v s)
+          go (no e) =
+              let c : suc k < P .count = below bead e in
+              let q = row-up (P .count) n (suc k) k (omega arith) c in
+              let l = pivot-le v s (suc k) (omega arith) in
+              ap (λ (i : ℕ). getD pivots i 0) place ∙ w .others (suc k) v c (λ z. absurd (omega arith)) inside
+              ∙ ap (λ (u : ℕ). sought G P n (suc k) u v) (looked-all (P .count) n t (suc k) (omega arith))
+              ∙ sought-found (suc k) n v (yes-true (holds? G P (P .count) v) s) (omega arith)
+            where
+              below : k < P .count → (suc k ≡ P .count → ⊥) → suc k < P .count
+              below b e = omega arith
 
-    inside : i % n < n
-    inside = mod-lt i some
+      -- and a step, whether the pattern holds or not
+      pub next-small : getD pivots (pivotAt (k + 1) v) 0 < n
+      next-small = go (holds? G P (P .count) v) refl (ℕ-discrete (suc k) (P .count))
+        where
+          place : pivotAt (k + 1) v ≡ pivotAt (suc k) v
+          place = omega arith
 
-    -- The turn of the bead k and the vertex v is the i-th, or was before.
-    earlier : (k v : ℕ) → v < n → i ≤ k * n + v → ((k ≡ i / n) → (v ≡ i % n) → ⊥) → i + 1 ≤ k * n + v
-    earlier k v l h f = go (ℕ-discrete (k * n + v) i)
-      where
-        rest : (k * n + v ≡ i → ⊥) → i + 1 ≤ k * n + v
-        rest d = omega arith
+          go : (b : Bool) → holds? G P (P .count) v ≡ b → Dec (suc k ≡ P .count) → getD pivots (pivotAt (k + 1) v) 0 < n
+          go true e d = let s = true-yes (holds? G P (P .count) v) e in let z = next-place s in let l = pivot-le v s (suc k) (omega arith) in omega arith
+          go false e (yes d) = let z : getD pivots (pivotAt (k + 1) v) 0 ≡ v = ap (λ (i : ℕ). getD pivots i 0) place ∙ ap (λ (j : ℕ). getD pivots (pivotAt j v) 0) d ∙ w .last v inside in omega arith
+          go false e (no d) =
+              let z : getD pivots (pivotAt (k + 1) v) 0 ≡ 0 =
+              ap (λ (i : ℕ). getD pivots i 0) place ∙ w .others (suc k) v (below bead d) (λ z. absurd (omega arith)) inside ∙ sought-fails (suc k) (looked (P .count) n t (suc k)) v e in
+              omega arith
+            where
+              below : k < P .count → (suc k ≡ P .count → ⊥) → suc k < P .count
+              below b e = omega arith
 
-        go : Dec (k * n + v ≡ i) → i + 1 ≤ k * n + v
-        go (yes e) = let q = one-turn n k v (i / n) (i % n) l inside (e ∙ turn) in absurd (f (q .0) (q .1))
-        go (no e) = rest e
+      -- nothing is put down
+      pub walk-skip : (getD pivots (pivotAt k v) 0 ≡ n → (u : ℕ) → from ≤ u → u < to → serves? G P k (getD pivots (pivotAt (k + 1) v) 0) u ≡ false)
+          → WalkedIn G P n t k from to (v + 1) pivots
+      walk-skip none = record { last = w .last; others = w .others; past = λ u h l. go u h l (ℕ-discrete u v); rest = λ u h l. w .rest u (omega arith) l }
+        where
+          stays : T (holds? G P (P .count) v) → from ≤ pivotOf G P k v → to ≤ pivotOf G P k v
+          stays s h = cut (decLt (pivotOf G P k v) to)
+            where
+              empty : getD pivots (pivotAt k v) 0 ≡ n
+              empty = w .rest v (omega arith) inside ∙ sought-open k from v (yes-true (holds? G P (P .count) v) s) h
 
-    -- The pattern fails at the vertex: nothing to do.
-    pub walked-no : (b : Bool) → b ≡ holds? G P (P .count) (i % n) → b ≡ false → WalkedDownTo G P n i pivots
-    walked-no b eb f = record { places = λ k v c l h t. w .places k v c l (earlier k v l h (λ x y. fails v y t)) t }
-      where
-        fails : (v : ℕ) → v ≡ i % n → T (holds? G P (P .count) v) → ⊥
-        fails v y t = false-no (holds? G P (P .count) (i % n)) (sym eb ∙ f) (subst (λ (x : ℕ). T (holds? G P (P .count) x)) y t)
+              cut : Dec (pivotOf G P k v < to) → to ≤ pivotOf G P k v
+              cut (yes l) =
+                  absurd (false-no (serves? G P k (pivotOf G P (suc k) v) (pivotOf G P k v))
+                  (ap (λ (p : ℕ). serves? G P k p (pivotOf G P k v)) (sym (next-place s)) ∙ none empty (pivotOf G P k v) h l) (pivot-first v s k bead .passes))
+              cut (no l) = omega arith
 
-    -- The target of the turn: the pivot that was picked before.
-    pub target-is : i / n < P .count → T (holds? G P (P .count) (i % n)) → getD pivots (pivotAt (i / n + 1) (i % n)) 0 ≡ pivotBack G P (i / n + 1) (P .count - (i / n + 1)) (i % n)
-    target-is c t = w .places (i / n + 1) (i % n) (omega arith) inside (let e = turn in let q : i / n * n + n ≡ (i / n + 1) * n = next-row (i / n) n in omega arith) t
-      where
-        next-row : (a b : ℕ) → a * b + b ≡ (a + 1) * b
-        next-row a b = sym (ap (λ (x : ℕ). x * b) (add-one a) ∙ suc-mul a b)
+          go : (u : ℕ) → u < v + 1 → u < n → Dec (u ≡ v) → getD pivots (pivotAt k u) 0 ≡ sought G P n k to u
+          go u h l (yes e) = rw e (w .rest v (omega arith) inside ∙ sought-same k from to v (omega arith) stays)
+          go u h l (no e) = w .past u (omega arith) l
 
-    pub target-inside : i / n < P .count → T (holds? G P (P .count) (i % n)) → getD pivots (pivotAt (i / n + 1) (i % n)) 0 < n
-    target-inside c t = let e = target-is c t in let h = back-holds G P (i / n + 1) (P .count - (i / n + 1)) (i % n) (subst (λ (j : ℕ). T (holds? G P j (i % n))) whole t) .1 in let l = inside in omega arith
-      where
-        whole : P .count ≡ i / n + 1 + (P .count - (i / n + 1))
-        whole = omega arith
+      -- the smallest that serves is put down
+      pub walk-put : (x : ℕ) → getD pivots (pivotAt k v) 0 ≡ n → from ≤ x → x < to → serves? G P k (getD pivots (pivotAt (k + 1) v) 0) x ≡ true
+          → ((u : ℕ) → from ≤ u → u < x → serves? G P k (getD pivots (pivotAt (k + 1) v) 0) u ≡ false) → pivotAt k v < length pivots
+          → WalkedIn G P n t k from to (v + 1) (set pivots (pivotAt k v) x)
+      walk-put x empty low high serves none room = record {
+        last = λ u l. getD-set-other pivots (pivotAt k v) (pivotAt (P .count) u) x 0 (λ e. absurd (apart (P .count) u l e refl)) ∙ w .last u l;
+        others = λ j u c e l. getD-set-other pivots (pivotAt k v) (pivotAt j u) x 0 (λ z. e (same j u l z .0)) ∙ w .others j u c e l;
+        past = λ u h l. go u h l (ℕ-discrete u v);
+        rest = λ u h l. getD-set-other pivots (pivotAt k v) (pivotAt k u) x 0 (λ z. absurd (let q = same k u l z .1 in omega arith)) ∙ w .rest u (omega arith) l;
+      }
+        where
+          same : (j u : ℕ) → u < n → pivotAt j u ≡ pivotAt k v → (j ≡ k) × (u ≡ v)
+          same j u l e = one-place j u k v (omega arith) (omega arith) e
 
-    -- The smallest that serves is put down.
-    pub walked-yes : (p u : ℕ) → i / n < P .count → T (holds? G P (P .count) (i % n)) → p ≡ getD pivots (pivotAt (i / n + 1) (i % n)) 0 → u ≡ before G P (i / n) p
-        → pivotAt (i / n) (i % n) < length pivots → WalkedDownTo G P n i (set pivots (pivotAt (i / n) (i % n)) u)
-    walked-yes p u c t ep eu long = record { places = λ k v d l h s. go k v d l h s (ℕ-discrete k (i / n)) (ℕ-discrete v (i % n)) }
-      where
-        value : u ≡ pivotBack G P (i / n) (P .count - i / n) (i % n)
-        value =
-            let o : P .count - i / n ≡ suc (P .count - (i / n + 1)) = omega arith in
-            eu ∙ ap (before G P (i / n)) (ep ∙ target-is c t ∙ ap (λ (j : ℕ). pivotBack G P j (P .count - (i / n + 1)) (i % n)) (add-one (i / n)))
-            ∙ sym (ap (λ (m : ℕ). pivotBack G P (i / n) m (i % n)) o ∙ back-more G P (i / n) (P .count - (i / n + 1)) (i % n))
+          apart : (j u : ℕ) → u < n → pivotAt j u ≡ pivotAt k v → j ≡ P .count → ⊥
+          apart j u l e z = let q = same j u l e .0 in omega arith
 
-        other : (k v : ℕ) → v < n → ((k ≡ i / n) → (v ≡ i % n) → ⊥) → pivotAt k v ≡ pivotAt (i / n) (i % n) → ⊥
-        other k v l f e = let q = one-place k v (i / n) (i % n) (omega arith) (let z = inside in omega arith) e in f (q .0) (q .1)
+          searching : T (holds? G P (P .count) v) × (from ≤ pivotOf G P k v)
+          searching = sought-n k from v (omega arith) inside (sym (w .rest v (omega arith) inside) ∙ empty)
 
-        kept : (k v : ℕ) → k ≤ P .count → v < n → i ≤ k * n + v → T (holds? G P (P .count) v) → ((k ≡ i / n) → (v ≡ i % n) → ⊥)
-            → getD (set pivots (pivotAt (i / n) (i % n)) u) (pivotAt k v) 0 ≡ pivotBack G P k (P .count - k) v
-        kept k v d l h s f = getD-set-other pivots (pivotAt (i / n) (i % n)) (pivotAt k v) u 0 (other k v l f) ∙ w .places k v d l (earlier k v l h f) s
+          target : getD pivots (pivotAt (k + 1) v) 0 ≡ pivotOf G P (suc k) v
+          target = next-place (searching .0)
 
-        go : (k v : ℕ) → k ≤ P .count → v < n → i ≤ k * n + v → T (holds? G P (P .count) v) → Dec (k ≡ i / n) → Dec (v ≡ i % n)
-            → getD (set pivots (pivotAt (i / n) (i % n)) u) (pivotAt k v) 0 ≡ pivotBack G P k (P .count - k) v
-        go k v d l h s (yes x) (yes y) = rw (x, y, getD-set-same pivots (pivotAt (i / n) (i % n)) u 0 long) value
-        go k v d l h s (yes x) (no y) = kept k v d l h s (λ a b. y b)
-        go k v d l h s (no x) y = kept k v d l h s (λ a b. x a)
+          least : First (serves? G P k (pivotOf G P (suc k) v)) 0 (pivotOf G P k v)
+          least = pivot-first v (searching .0) k bead
+
+          is : x ≡ pivotOf G P k v
+          is = cut (decLt x (pivotOf G P k v)) (decLt (pivotOf G P k v) x)
+            where
+              cut : Dec (x < pivotOf G P k v) → Dec (pivotOf G P k v < x) → x ≡ pivotOf G P k v
+              cut (yes l) d =
+                  absurd (least .smaller x (omega arith) l
+                  (true-yes (serves? G P k (pivotOf G P (suc k) v) x) (ap (λ (p : ℕ). serves? G P k p x) (sym target) ∙ serves)))
+              cut (no l) (yes d) =
+                  absurd (false-no (serves? G P k (pivotOf G P (suc k) v) (pivotOf G P k v))
+                  (ap (λ (p : ℕ). serves? G P k p (pivotOf G P k v)) (sym target) ∙ none (pivotOf G P k v) (searching .1) d) (least .passes))
+              cut (no l) (no d) = omega arith
+
+          go : (u : ℕ) → u < v + 1 → u < n → Dec (u ≡ v) → getD (set pivots (pivotAt k v) x) (pivotAt k u) 0 ≡ sought G P n k to u
+          go u h l (yes e) =
+              rw e (getD-set-same pivots (pivotAt k v) x 0 room ∙ is
+              ∙ sym (sought-found k to v (yes-true (holds? G P (P .count) v) (searching .0)) (let q = is in omega arith)))
+          go u h l (no e) = getD-set-other pivots (pivotAt k v) (pivotAt k u) x 0 (λ z. e (same k u l z .1)) ∙ w .past u (omega arith) l
+
+  -- after all turns
+  pub walk-done : (t : ℕ) (pivots : List ℕ) → t ≡ P .count * n → WalkedTo G P n t pivots → WalkedBack G P n pivots
+  unfolding pivotOf
+  walk-done t pivots e w = record { places = λ k v c l s. go k v c l s (ℕ-discrete k (P .count)) }
+    where
+      go : (k v : ℕ) → k ≤ P .count → v < n → T (holds? G P (P .count) v) → Dec (k ≡ P .count) → getD pivots (pivotAt k v) 0 ≡ pivotBack G P k (P .count - k) v
+      go k v c l s (yes z) = rw z (w .last v l ∙ sym (pivot-last v s))
+      go k v c l s (no z) =
+          let b : k < P .count = below c z in
+          let q : suc (P .count - suc k) * n ≤ P .count * n = mul-le-mul-right n (let y : suc (P .count - suc k) ≤ P .count = omega arith in y) in
+          let r = suc-mul (P .count - suc k) n in
+          let p = pivot-le v s k c in
+          w .places k v b l ∙ ap (λ (u : ℕ). sought G P n k u v) (looked-all (P .count) n t k (omega arith))
+          ∙ sought-found k n v (yes-true (holds? G P (P .count) v) s) (omega arith)
+        where
+          below : k ≤ P .count → (k ≡ P .count → ⊥) → k < P .count
+          below c z = omega arith

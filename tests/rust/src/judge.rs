@@ -1,4 +1,4 @@
-//! The reference judge: forward from each starting pivot, one set of states a step. (The library finds the pivots shown by backward passes.)
+//! The reference judge: forward from each starting pivot, one set of states a step. (The library goes forward from sixteen at once.)
 
 use crate::log::Log;
 use crate::pattern::{Bead, Pattern, Rule};

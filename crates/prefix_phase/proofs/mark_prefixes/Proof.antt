@@ -1,4 +1,4 @@
--- `mark_prefixes` has a turn for each bead and each step.
+-- `mark_prefixes` has n turns a bead.
 use Rattle.prefix_phase.proofs.MarkLaws.{tried-kit as kit}
 use borrow.Author.Needs.{needs}
 use Rattle.prefix_phase.proofs.mark_prefixes.Statement.{statement}

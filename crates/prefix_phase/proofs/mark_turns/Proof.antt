@@ -1,45 +1,45 @@
 -- `mark_turns` goes through the turns, and those before are marked.
-use Rattle.prefix_phase.proofs.MarkLaws.{turn-kit as kit}
-use Rattle.prefix_phase.specs.Marked.{MarkedUpTo, TableAt}
-use Rattle.pattern_buffer.specs.Meaning.{patternOf}
+use Rattle.prefix_phase.proofs.MarkLaws.{turn-kit as kit, next-kit, turn-asked, turn-marked, none-marked}
 use Rattle.log_buffer.specs.Meaning.{logOf}
-use lib.ListN.{length}
+use Rattle.pattern_buffer.specs.Meaning.{patternOf}
+use Prim.Native.Nat.{_≤_, _<_, _-_, _+_}
 use mathlib.Core.Path.{_≡_}
-use Prim.Native.Nat.{_≤_, _-_, _/_, _%_}
+use lib.ListN.{length}
+use Rattle.lanes.specs.Lanes.{workLength}
+use Rattle.prefix_phase.specs.Marked.{MarkedUpTo}
 use borrow.Author.Needs.{needs}
 use Rattle.prefix_phase.proofs.mark_turns.Statement.{statement}
 use Rattle.prefix_phase.proofs.mark_turns.Tie as tie
 
 abbrev Inv-loop : tie.InvT-loop
-Inv-loop pattern log n turns prefixes₀ work₀ i₀ prefixes work i = (i ≤ turns) × (1024 ≤ length prefixes) × (16384 ≤ length work) × (length prefixes ≡ length prefixes₀) × (length work ≡ length work₀)
-    × MarkedUpTo (logOf log) (patternOf pattern) n i prefixes × TableAt pattern log (i / n) (i % n) work
+Inv-loop pattern log n turns hopes last prefixes₀ work₀ i₀ prefixes work i = (i ≤ turns) × (1024 ≤ length prefixes) × (workLength ≤ length work) × (length prefixes ≡ length prefixes₀) × (length work ≡ length work₀) × MarkedUpTo (logOf log) (patternOf pattern) n i prefixes
 
 abbrev μ-loop : tie.MeasureT-loop
-μ-loop pattern log n turns prefixes₀ work₀ i₀ prefixes work i = turns - i
+μ-loop pattern log n turns hopes last prefixes₀ work₀ i₀ prefixes work i = turns - i
 
 loop-holds : tie.Need-loop-holds Inv-loop μ-loop
-loop-holds c = search (needs, kit)
+loop-holds c = (search needs, search needs, search needs, search needs, search needs, search (needs, none-marked))
 
 div-k : tie.Need-div-k Inv-loop μ-loop
 div-k c = search (needs, kit)
 
-rem-u : tie.Need-rem-u Inv-loop μ-loop
-rem-u c = search (needs, kit)
+rem-from : tie.Need-rem-from Inv-loop μ-loop
+rem-from c = search (needs, kit)
 
-table-for-requires : tie.Need-table-for-requires Inv-loop μ-loop
-table-for-requires c κs = search (needs, kit)
+mark-from-requires : tie.Need-mark-from-requires Inv-loop μ-loop
+mark-from-requires c κs = (search (needs, turn-asked), (search needs, search needs, search needs, search needs))
 
-mark-served-requires : tie.Need-mark-served-requires Inv-loop μ-loop
-mark-served-requires c κs = (search (needs, kit), (search (needs, kit), (search needs, (search needs, search needs))))
+mul-i : tie.Need-mul-i Inv-loop μ-loop
+mul-i c = search (needs, kit)
 
 add-i : tie.Need-add-i Inv-loop μ-loop
 add-i c = search (needs, kit)
 
 loop-less : tie.Need-loop-less Inv-loop μ-loop
-loop-less c = search (needs, kit)
+loop-less c = search (needs, next-kit)
 
 loop-again : tie.Need-loop-again Inv-loop μ-loop
-loop-again c = (search needs, search needs, search needs, search needs, search needs, search (needs, kit), search (needs, kit))
+loop-again c = (search (needs, next-kit), search needs, search needs, search needs, search needs, search (needs, turn-marked))
 
 same-length : tie.Need-same-length Inv-loop μ-loop
 same-length c = search (needs, kit)
@@ -58,9 +58,9 @@ mark-turns-spec =
     μ-loop
     loop-holds
     div-k
-    rem-u
-    table-for-requires
-    mark-served-requires
+    rem-from
+    mark-from-requires
+    mul-i
     add-i
     loop-less
     loop-again

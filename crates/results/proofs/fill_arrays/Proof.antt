@@ -1,17 +1,13 @@
 -- The first phase gives what the second asks.
-use Rattle.passes.proofs.ServingLaws.{ready-none}
 use borrow.Author.Needs.{needs}
 use Rattle.results.proofs.fill_arrays.Statement.{statement}
 use Rattle.results.proofs.fill_arrays.Tie as tie
 
 mark-prefixes-requires : tie.Need-mark-prefixes-requires
-mark-prefixes-requires c κs = search needs
-
-slice-aggregate-walk-back : tie.Need-slice-aggregate-walk-back
-slice-aggregate-walk-back c = search needs
+mark-prefixes-requires c κs = (search needs, (search needs, (search needs, (search needs, (search needs, search needs, search needs, search needs)))))
 
 walk-back-requires : tie.Need-walk-back-requires
-walk-back-requires c κs = (search needs, (search needs, (search needs, search (needs, ready-none))))
+walk-back-requires c κs = (search needs, (search needs, (search needs, (search needs, (search needs, search needs, search needs, search needs, search needs)))))
 
 same-length : tie.Need-same-length
 same-length c = search needs
@@ -23,14 +19,13 @@ same-length-3 : tie.Need-same-length-3
 same-length-3 c = search needs
 
 returns : tie.Need-returns
-returns c = search needs
+returns c = (search needs, search needs)
 
 pub fill-arrays-spec : {M : Type 1} → statement M
 fill-arrays-spec =
     tie.close
     (tie.spec
     mark-prefixes-requires
-    slice-aggregate-walk-back
     walk-back-requires
     same-length
     same-length-2

@@ -4,14 +4,14 @@ use borrow.Author.Needs.{needs}
 use Rattle.results.proofs.judge_arrays.Statement.{statement}
 use Rattle.results.proofs.judge_arrays.Tie as tie
 
-slice-aggregate-fill-arrays : tie.Need-slice-aggregate-fill-arrays
-slice-aggregate-fill-arrays c = search (needs, arrays-kit)
+slice-aggregate-fill-all : tie.Need-slice-aggregate-fill-all
+slice-aggregate-fill-all c = search (needs, arrays-kit)
 
-slice-aggregate-fill-arrays-2 : tie.Need-slice-aggregate-fill-arrays-2
-slice-aggregate-fill-arrays-2 c = search (needs, arrays-kit)
+slice-aggregate-fill-all-2 : tie.Need-slice-aggregate-fill-all-2
+slice-aggregate-fill-all-2 c = search (needs, arrays-kit)
 
-fill-arrays-requires : tie.Need-fill-arrays-requires
-fill-arrays-requires c κs = search (needs, arrays-kit)
+fill-all-requires : tie.Need-fill-all-requires
+fill-all-requires c κs = search (needs, arrays-kit)
 
 slice-aggregate-finish : tie.Need-slice-aggregate-finish
 slice-aggregate-finish c = search (needs, arrays-kit)
@@ -35,9 +35,9 @@ pub judge-arrays-spec : {M : Type 1} → statement M
 judge-arrays-spec =
     tie.close
     (tie.spec
-    slice-aggregate-fill-arrays
-    slice-aggregate-fill-arrays-2
-    fill-arrays-requires
+    slice-aggregate-fill-all
+    slice-aggregate-fill-all-2
+    fill-all-requires
     slice-aggregate-finish
     slice-aggregate-finish-2
     finish-requires

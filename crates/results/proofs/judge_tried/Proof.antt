@@ -16,8 +16,8 @@ wide-requires c κs = search (needs, tried-kit)
 judge-arrays-requires : tie.Need-judge-arrays-requires
 judge-arrays-requires c κs = search (needs, tried-kit)
 
-clear-requires : tie.Need-clear-requires
-clear-requires c κs = search (needs, tried-kit)
+clear-all-requires : tie.Need-clear-all-requires
+clear-all-requires c κs = search (needs, tried-kit)
 
 same-length : tie.Need-same-length
 same-length c = search (needs, tried-kit)
@@ -36,7 +36,7 @@ judge-tried-spec =
     shared-slice-read-wide
     wide-requires
     judge-arrays-requires
-    clear-requires
+    clear-all-requires
     same-length
     same-length-2
     returns)

@@ -1,45 +1,47 @@
--- `begin_walk` puts each step down as its own last pivot.
-use Rattle.walk_phase.proofs.WalkLaws.{begin-kit as kit}
-use Rattle.walk_phase.specs.Walked.{Begun}
-use lib.ListN.{length}
+-- `begin_walk` lays the places out from the front.
+use Rattle.walk_phase.proofs.WalkLaws.{set-at, places-more}
+use Rattle.lists.proofs.FilledLaws.{kit}
+use Prim.Native.Nat.{_≤_, _<_, _-_, _+_, _*_}
 use mathlib.Core.Path.{_≡_}
-use Prim.Native.Nat.{_≤_, _-_}
+use lib.ListN.{length}
+use Rattle.walk_phase.specs.Walked.{firstPlace}
+use Rattle.lists.specs.Filled.{Filled}
 use borrow.Author.Needs.{needs}
 use Rattle.walk_phase.proofs.begin_walk.Statement.{statement}
 use Rattle.walk_phase.proofs.begin_walk.Tie as tie
 
 abbrev Inv-loop : tie.InvT-loop
-Inv-loop beads n pivots₀ v₀ pivots v = (v ≤ n) × (9216 ≤ length pivots) × (length pivots ≡ length pivots₀) × Begun beads v pivots
+Inv-loop pattern prefixes beads n pivots₀ places i₀ pivots i = (i ≤ places) × (9216 ≤ length pivots) × (length pivots ≡ length pivots₀) × (places ≡ 1024 * beads + n) × Filled (firstPlace pattern prefixes beads n) i pivots
 
 abbrev μ-loop : tie.MeasureT-loop
-μ-loop beads n pivots₀ v₀ pivots v = n - v
+μ-loop pattern prefixes beads n pivots₀ places i₀ pivots i = places - i
+
+mul-places : tie.Need-mul-places Inv-loop μ-loop
+mul-places c = search (needs, kit)
+
+add-places : tie.Need-add-places Inv-loop μ-loop
+add-places c = search (needs, kit)
 
 loop-holds : tie.Need-loop-holds Inv-loop μ-loop
 loop-holds c = search (needs, kit)
 
-cast-pivots : tie.Need-cast-pivots Inv-loop μ-loop
-cast-pivots c = search (needs, kit)
+first-place-requires : tie.Need-first-place-requires Inv-loop μ-loop
+first-place-requires c κs = (search (needs, set-at), search needs)
 
 mul-pivots : tie.Need-mul-pivots Inv-loop μ-loop
 mul-pivots c = search (needs, kit)
 
-add-pivots : tie.Need-add-pivots Inv-loop μ-loop
-add-pivots c = search (needs, kit)
-
-mul-pivots-2 : tie.Need-mul-pivots-2 Inv-loop μ-loop
-mul-pivots-2 c = search (needs, kit)
-
 slice-write-pivots : tie.Need-slice-write-pivots Inv-loop μ-loop
 slice-write-pivots c = search (needs, kit)
 
-add-v : tie.Need-add-v Inv-loop μ-loop
-add-v c = search (needs, kit)
+add-i : tie.Need-add-i Inv-loop μ-loop
+add-i c = search (needs, kit)
 
 loop-less : tie.Need-loop-less Inv-loop μ-loop
 loop-less c = search (needs, kit)
 
 loop-again : tie.Need-loop-again Inv-loop μ-loop
-loop-again c = search (needs, kit)
+loop-again c = (search needs, search needs, search needs, search needs, search (needs, places-more))
 
 same-length : tie.Need-same-length Inv-loop μ-loop
 same-length c = search (needs, kit)
@@ -53,13 +55,13 @@ begin-walk-spec =
     (tie.spec
     Inv-loop
     μ-loop
+    mul-places
+    add-places
     loop-holds
-    cast-pivots
+    first-place-requires
     mul-pivots
-    add-pivots
-    mul-pivots-2
     slice-write-pivots
-    add-v
+    add-i
     loop-less
     loop-again
     same-length

@@ -1,5 +1,5 @@
--- `walk_back` has a turn for each bead and each step.
-use Rattle.walk_phase.proofs.WalkLaws.{back-kit as kit}
+-- `walk_back` lays out the places and walks.
+use Rattle.walk_phase.proofs.TurnLaws.{back-kit as kit, walk-tried}
 use borrow.Author.Needs.{needs}
 use Rattle.walk_phase.proofs.walk_back.Statement.{statement}
 use Rattle.walk_phase.proofs.walk_back.Tie as tie
@@ -16,26 +16,29 @@ shared-slice-read-wide-2 c = search (needs, kit)
 wide-requires-2 : tie.Need-wide-requires-2
 wide-requires-2 c κs = search (needs, kit)
 
-begin-walk-requires : tie.Need-begin-walk-requires
-begin-walk-requires c κs = (search (needs, kit), search (needs, kit), search needs)
+start-walk-requires : tie.Need-start-walk-requires
+start-walk-requires c κs = (search needs, (search needs, (search needs, search needs, search needs, search needs)))
 
-mul-walk-turns : tie.Need-mul-walk-turns
-mul-walk-turns c = search (needs, kit)
+mul-walk-from : tie.Need-mul-walk-from
+mul-walk-from c = search (needs, kit)
 
-walk-turns-requires : tie.Need-walk-turns-requires
-walk-turns-requires c κs = (search (needs, kit), (search (needs, kit), ((search needs, search needs, search needs), search (needs, kit))))
+slice-aggregate-walk-from : tie.Need-slice-aggregate-walk-from
+slice-aggregate-walk-from c = search (needs, kit)
+
+slice-aggregate-walk-from-2 : tie.Need-slice-aggregate-walk-from-2
+slice-aggregate-walk-from-2 c = search (needs, kit)
+
+walk-from-requires : tie.Need-walk-from-requires
+walk-from-requires c κs = ((search needs, search needs, search needs, search needs), (search (needs, walk-tried), search needs))
 
 same-length : tie.Need-same-length
-same-length c = search needs
+same-length c = search (needs, kit)
 
 same-length-2 : tie.Need-same-length-2
-same-length-2 c = search needs
-
-same-length-3 : tie.Need-same-length-3
-same-length-3 c = search needs
+same-length-2 c = search (needs, kit)
 
 returns : tie.Need-returns
-returns c = search needs
+returns c = search (needs, kit)
 
 pub walk-back-spec : {M : Type 1} → statement M
 walk-back-spec =
@@ -45,10 +48,11 @@ walk-back-spec =
     wide-requires
     shared-slice-read-wide-2
     wide-requires-2
-    begin-walk-requires
-    mul-walk-turns
-    walk-turns-requires
+    start-walk-requires
+    mul-walk-from
+    slice-aggregate-walk-from
+    slice-aggregate-walk-from-2
+    walk-from-requires
     same-length
     same-length-2
-    same-length-3
     returns)

@@ -1,2 +1,0 @@
-pub mod PushLaws
-pub mod BackLaws

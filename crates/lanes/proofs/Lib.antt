@@ -1,0 +1,4 @@
+pub mod GrowLaws
+pub mod GatherLaws
+pub mod EnterLaws
+pub mod TurnLaws

@@ -1,0 +1,3 @@
+pub mod PrefixLaws
+pub mod StartLaws
+pub mod LaneLaws
