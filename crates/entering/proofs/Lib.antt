@@ -1,1 +1,2 @@
 pub mod EnterLaws
+pub mod GrowLaws

@@ -8,7 +8,7 @@ ghost use Rattle.sets.specs.Sets.{setOf, singleton, members};
 ghost use Rattle.forward.specs.Forward.{reached};
 ghost use Rattle.pattern_line.specs.Limits.{mostBeads, mostStates, bufferLength as patternLength};
 ghost use Rattle.pattern_buffer.specs.Meaning.{automatonOf};
-ghost use Rattle.entering.specs.Entering.{unionOver};
+ghost use Rattle.entering.specs.Entering.{unionOver, spreadOver, Grown};
 
 // The value of each state, from the leaf.
 pub fn state_values() -> [u16; 16]
@@ -50,6 +50,22 @@ pub fn union_over(set: u16, list: &[u16], from: usize) -> u16
         i += 1;
     }
     all
+}
+
+// Adds a set to those of the first sixteen of a list whose place is a member of another. The values are laid out before the loop, as in
+// `union_over`.
+pub fn spread(set: u16, more: u16, list: &mut [u16])
+    requires { ⌜ 16 ≤ length (now list) ⌝ }
+    ensures { λ _. ⌜ Grown 16 (spreadOver set more) (now (list .entry)) (now (list .exit)) ⌝ }
+{
+    let values = state_values();
+    let mut r = 0;
+    while r < 16 {
+        let there = sets::overlaps(set, values[r]);
+        let got = set_if(there, more);
+        list[r] = sets::union(list[r], got);
+        r += 1;
+    }
 }
 
 // The states to which entering a vertex with these labels leads from a state: the state itself where there are none.

@@ -2,10 +2,10 @@
 use Prim.Native.Nat.{ℕ, zero, suc, _<_}
 use mathlib.Core.Bool.{Bool, false, not, _&&_, _||_}
 use mathlib.Core.List.{List, [], _∷_}
-use lib.Dec.{T, eqb}
+use lib.Dec.{T, eqb, ltb}
 use Rattle.sets.specs.Sets.{_∈_, someBelow}
 use Rattle.necklace.specs.Dag.{Dag, Route, entered, Reading}
-use Rattle.necklace.specs.Automaton.{Automaton, Run, exchange}
+use Rattle.necklace.specs.Automaton.{Automaton, Run}
 use Rattle.necklace.specs.Necklace.{Modality, SOME, ALL}
 use Rattle.necklace.specs.Compute.{someOf, elem}
 
@@ -39,12 +39,16 @@ pub record EndsIn (G : Dag) (A : Automaton) (starts : ℕ → Bool) (v r : ℕ) 
   pub reading : Reading G (entered route) word
   pub run : Run (A .next) 0 word r
 
+-- The set of v has a state of H and, under ALL, no state of the automaton outside H.
+abbrev pub among? : Modality → Dag → Automaton → (ℕ → Bool) → (ℕ → Bool) → ℕ → Bool
+among? SOME G A H starts v = someBelow 16 (λ r. H r && forward G A starts v r)
+among? ALL G A H starts v =
+    someBelow 16 (λ r. H r && forward G A starts v r) && not (someBelow 16 (λ r. (ltb r (A .states) && not (H r)) && forward G A starts v r))
+
 -- A primitive pattern reaches v from the starting vertices, by the set of v: SOME by an accepting state; ALL by one, and by no other
 -- state of the automaton.
 abbrev pub reaches? : Modality → Dag → Automaton → (ℕ → Bool) → ℕ → Bool
-reaches? SOME G A starts v = someBelow 16 (λ r. A .accepting r && forward G A starts v r)
-reaches? ALL G A starts v =
-    someBelow 16 (λ r. A .accepting r && forward G A starts v r) && not (someBelow 16 (λ r. exchange A .accepting r && forward G A starts v r))
+reaches? m G A starts v = among? m G A (A .accepting) starts v
 
 -- States H among which are all from which an accepting state can be reached: the accepting ones, and each with a next state among them,
 -- at some label below 16.

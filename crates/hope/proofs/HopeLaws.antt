@@ -10,7 +10,7 @@ use lib.ListN.{length, getD, set}
 use lib.Seq.{getD-set-same, getD-set-other}
 use Rattle.lists.specs.Places.{at}
 use Rattle.lists.specs.Filled.{Filled}
-use Rattle.sets.specs.Sets.{_∈_, member, setOf, singleton, union, someBelow, allBelow}
+use Rattle.sets.specs.Sets.{_∈_, member, setOf, singleton, union, allBelow}
 use Rattle.sets.proofs.Truth.{or-l, or-r, and-i, true-yes}
 use Rattle.sets.proofs.Laws.{setOf-none, setOf-put, setOf-skip, setOf-end}
 use Rattle.sets.proofs.Laws.{member-setOf, member-union, someBelow-none, someBelow-more, someBelow-in, members-out}

@@ -1,13 +1,12 @@
--- The lanes of listed steps, step by step.
-use Prim.Native.Nat.{ℕ, _+_, _-_, _*_, _^_, _≤_, _<_}
-use mathlib.Core.Path.{_≡_, refl, sym, ap, ap₂, _∙_}
-use mathlib.Core.Bool.{Bool, true, false, cond, _&&_, _||_, or-false, or-assoc}
+-- The lanes of a step added, and those of listed steps, step by step.
+use Prim.Native.Nat.{ℕ, _+_, _-_, _*_, _≤_, _<_}
+use mathlib.Core.Path.{_≡_, sym, ap, _∙_}
+use mathlib.Core.Bool.{Bool, cond, _&&_, _||_, or-false, or-assoc}
 use mathlib.Core.List.{List, [], _∷_, _++_}
 use native.Mathlib.Numerals.{add-one}
 use native.Mathlib.Omega.{arith}
 use borrow.Author.Tests.{le-leb, lt-leb, lt-ltb}
-use lib.Dec.{leb, ltb}
-use lib.ListN.{length, getD, take, drop, replicate}
+use lib.ListN.{length, getD, set, take, drop, replicate}
 use lib.Seq.{take-all, take-suc}
 use Rattle.lists.proofs.Tables.{zeros-at}
 use Rattle.sets.specs.Sets.{member, union}
@@ -18,7 +17,20 @@ use Rattle.log_line.specs.Limits.{linkAt}
 use Rattle.log_buffer.specs.Meaning.{stepsIn, linksInto}
 use Rattle.log_links.specs.Links.{Laid, Begins, Inside}
 use Rattle.log_links.proofs.LinkLaws.{links-order, links-small, links-are}
-use Rattle.lanes.specs.Lanes.{workAt, laneIn, lanesAt, Grown, Gathered}
+use Rattle.entering.specs.Entering.{Grown}
+use Rattle.entering.proofs.GrowLaws.{grown-none, grown-end, grown-more}
+use Rattle.lanes.specs.Lanes.{workAt, laneIn, lanesAt, Gathered}
+
+-- ---- one step
+
+module _ (work : List ℕ) (w j : ℕ) (old l : List ℕ) (d : Grown j (lanesAt work w) old l) (v : ℕ) where
+  pub step-more : j < 16 → 16 ≤ length l → v ≡ union 16 (getD l j 0) (getD work (16 * w + j) 0) → Grown (j + 1) (lanesAt work w) old (set l j v)
+  unfolding lanesAt
+  step-more h long e = grown-more (lanesAt work w) j old l d (omega arith) v e
+
+pub ruleset step-kit = (grown-none, grown-end, step-more)
+
+-- ---- one after the other
 
 someOf-last : (f : ℕ → Bool) (u : ℕ) (ls : List ℕ) → someOf f (ls ++ (u ∷ [])) ≡ (someOf f ls || f u)
 someOf-last f u [] = or-false (f u)

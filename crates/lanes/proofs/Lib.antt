@@ -1,4 +1,2 @@
-pub mod GrowLaws
 pub mod GatherLaws
-pub mod EnterLaws
-pub mod TurnLaws
+pub mod PutLaws

@@ -2,21 +2,20 @@
 -- Assumes nothing.
 use Prim.Native.Nat.{ℕ, zero, suc, _+_, _-_, _*_, _/_, _%_, _^_, _≤_, _<_}
 use mathlib.Core.Path.{_≡_, refl, sym, ap, _∙_, subst}
-use mathlib.Core.Bool.{Bool, true, false}
+use mathlib.Core.Bool.{Bool, true}
 use mathlib.Core.List.{List}
 use native.Mathlib.Nat.{mod-lt, mul-zero, suc-mul, div-add-mod', div-lt-iff-lt-mul, mul-le-mul, mul-le-mul-right}
 use native.Mathlib.Numerals.{add-one}
 use native.Mathlib.Omega.{arith}
 use lib.Dec.{T}
 use lib.ListN.{length, getD}
-use Rattle.necklace.specs.Dag.{Dag}
-use Rattle.necklace.specs.Necklace.{Pattern}
 use Rattle.necklace.specs.Compute.{holds?}
 use Rattle.log_buffer.specs.Meaning.{logOf, stepsIn}
 use Rattle.log_buffer.proofs.Meaning.{log-well-formed}
 use Rattle.pattern_buffer.specs.Meaning.{beadsIn, labelsIn, patternOf}
 use Rattle.pattern_buffer.specs.Valid.{isPattern}
 use Rattle.pattern_buffer.proofs.Places.{passes-out, states-fit}
+use Rattle.pattern_buffer.proofs.Meaning.{pattern-well-formed}
 use Rattle.log_links.specs.Links.{Laid, LastTo}
 use Rattle.log_links.proofs.LinkLaws.{laid}
 use Rattle.entering.specs.Entering.{BeadIn}
@@ -66,8 +65,10 @@ all-beads pattern log t =
     record { long = p .long; few = p .beads-most; beads = λ j h. bead-in pattern j (t .is-pattern) h }
 
 pub pass-of : (pattern log : List ℕ) → Tried pattern log → (k : ℕ) → k < beadsIn pattern → PassOf pattern log k
+unfolding patternOf
 pass-of pattern log t k h = record {
   bead = bead-in pattern k (t .is-pattern) h;
+  one-next = pattern-well-formed pattern (t .is-pattern) .one-next k h;
   few-labels = passes-out pattern (t .is-pattern) .labels-most;
   laid = laid (labelsIn pattern) log (t .is-log);
   well-formed = log-well-formed (labelsIn pattern) log (t .is-log);
@@ -85,26 +86,14 @@ module _ (pattern log : List ℕ) (n turns : ℕ) (t : Turns pattern log n turns
         go zero g = let e : beadsIn pattern * 0 ≡ 0 = mul-zero (beadsIn pattern) in absurd (omega arith)
         go (suc m) g = omega arith
 
-    pub steps-not-none : n ≡ 0 → ⊥
-    steps-not-none e = let g = steps-some in omega arith
-
     pub bead-inside : turn / n < beadsIn pattern
     bead-inside = div-lt-iff-lt-mul steps-some .1 (subst (λ (x : ℕ). turn < x) (t .turns-are) h)
 
     pub bead-few : turn / n < 8
     bead-few = let b = bead-inside in let f = beads-few pattern log (t .tried) in omega arith
 
-    pub bead-small : turn / n < 16
-    bead-small = let b = bead-few in omega arith
-
     pub turn-step : turn % n < n
     turn-step = mod-lt turn steps-some
-
-    pub step-inside : turn % n < stepsIn log
-    step-inside = let b = turn-step in let e = t .steps-are in omega arith
-
-    pub step-small : turn % n < 1024
-    step-small = let a = turn-step in let b = steps-few in omega arith
 
     turn-is : turn ≡ turn / n * n + turn % n
     turn-is = sym (div-add-mod' turn n)
@@ -199,8 +188,11 @@ module _ (pattern log : List ℕ) (n k from : ℕ) (prefixes hopes last : List �
   pub asked-bit : k < 16
   asked-bit = let h = ask .pass .bead .place in omega arith
 
-  pub asked-long : 2 + k < length pattern
-  asked-long = let h = ask .pass .bead .place in let l = ask .pass .bead .long in omega arith
+  pub asked-place : k < 8
+  asked-place = ask .pass .bead .place
+
+  pub asked-long : 10 ≤ length pattern
+  asked-long = let l = ask .pass .bead .long in omega arith
 
   pub asked-begin : from < n
   asked-begin = ask .begin
@@ -220,4 +212,4 @@ module _ (pattern log : List ℕ) (n k from : ℕ) (prefixes hopes last : List �
     added = added-ext (foundAt found) (servesIn (logOf log) (patternOf pattern) k from to) k from n prefixes new (λ v up l. f .served v l) a;
   }
 
-pub ruleset asked-kit = (asked-bit, asked-long, asked-begin, asked-few, made-all, made-found)
+pub ruleset asked-kit = (asked-bit, asked-place, asked-long, asked-begin, asked-few, made-all, made-found)

@@ -1,9 +1,9 @@
 -- What the judge's first phase has done after a while: bead by bead and, for each bead, candidates upwards.
-use Prim.Native.Nat.{ℕ, suc, _+_, _-_, _*_, _≤_, _<_, min}
+use Prim.Native.Nat.{ℕ, suc, _-_, _*_, _≤_, _<_, min}
 use mathlib.Core.Path.{_≡_}
 use mathlib.Core.List.{List}
 use lib.Dec.{T}
-use lib.ListN.{length, getD}
+use lib.ListN.{getD}
 use Rattle.sets.specs.Sets.{member, someBelow}
 use Rattle.necklace.specs.Dag.{Dag}
 use Rattle.necklace.specs.Necklace.{Pattern}
@@ -20,18 +20,11 @@ pub record Tried (pattern log : List ℕ) : Type 0 where
   pub is-pattern : T (isPattern pattern)
   pub is-log : T (isLog (labelsIn pattern) log)
 
--- How many turns the phases have: one for each bead and each of the n steps.
+-- How many turns the phase has: one for each bead and each of the n steps.
 pub record Turns (pattern log : List ℕ) (n turns : ℕ) : Type 0 where
   pub tried : Tried pattern log
   pub steps-are : n ≡ stepsIn log
   pub turns-are : turns ≡ beadsIn pattern * n
-
--- A turn of the first phase: a bead of the pattern, and a step of the log from which on candidates are to be looked at.
-pub record TurnOf (pattern log : List ℕ) (n k u : ℕ) : Type 0 where
-  pub tried : Tried pattern log
-  pub steps-are : n ≡ stepsIn log
-  pub bead : k < beadsIn pattern
-  pub start : u < n
 
 -- No prefix is marked.
 pub record Unmarked (prefixes : List ℕ) : Type 0 where

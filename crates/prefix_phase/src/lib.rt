@@ -6,92 +6,11 @@ ghost use Rattle.pattern_buffer.specs.Meaning.{patternOf};
 ghost use Rattle.log_links.specs.Links.{LastTo};
 ghost use Rattle.hope.specs.Hope.{Hopes};
 ghost use Rattle.lanes.specs.Lanes.{workLength};
-ghost use Rattle.serving.specs.Serving.{Asked, FoundIn};
+ghost use Rattle.serving.specs.Serving.{Asked};
 ghost use Rattle.prefix_phase.specs.Marked.{Tried, Turns, TurnMade, Marks, Unmarked};
 
-// One pass from the next candidates: sixteen for ALL, which asks each of them by itself; all of them for SOME.
-fn pass_from(
-    pattern: &[u16],
-    log: &[u16],
-    bead: usize,
-    from: usize,
-    n: usize,
-    hopes: &[u16],
-    last: &[u16],
-    prefixes: &[u16],
-    found: &mut [u16],
-    work: &mut [u16],
-) -> usize
-    requires { ⌜ Asked (now pattern) (now log) n bead from (now prefixes) (now hopes) (now last) ⌝ }
-    requires { ⌜ (8 ≤ length (now hopes)) × (1024 ≤ length (now last)) × (1024 ≤ length (now prefixes)) ⌝ }
-    requires { ⌜ (1024 ≤ length (now found)) × (workLength ≤ length (now work)) ⌝ }
-    ensures { λ r. ⌜ FoundIn (now (pattern .entry)) (now (log .entry)) n bead from r (now (found .exit)) ⌝ }
-{
-    let mut seeds = [0u16; 1024];
-    if pattern[2 + bead] == 2 {
-        return serving::sixteen_from(
-            pattern,
-            log,
-            bead,
-            from,
-            n,
-            hopes,
-            last,
-            prefixes,
-            &mut seeds,
-            found,
-            work,
-        );
-    }
-    serving::all_from(
-        pattern,
-        log,
-        bead,
-        from,
-        n,
-        hopes,
-        last,
-        prefixes,
-        &mut seeds,
-        found,
-        work,
-    )
-}
-
-// Adds the bead to the prefixes of the steps before which one of the next candidates serves.
-fn mark_pass(
-    pattern: &[u16],
-    log: &[u16],
-    bead: usize,
-    from: usize,
-    n: usize,
-    hopes: &[u16],
-    last: &[u16],
-    prefixes: &mut [u16],
-    work: &mut [u16],
-) -> usize
-    requires { ⌜ Asked (now pattern) (now log) n bead from (now prefixes) (now hopes) (now last) ⌝ }
-    requires { ⌜ (8 ≤ length (now hopes)) × (1024 ≤ length (now last)) × (1024 ≤ length (now prefixes)) × (workLength ≤ length (now work)) ⌝ }
-    ensures { λ r. ⌜ TurnMade (now (pattern .entry)) (now (log .entry)) n bead from r (now (prefixes .entry)) (now (prefixes .exit)) ⌝ }
-{
-    let mut found = [0u16; 1024];
-    let to = pass_from(
-        pattern,
-        log,
-        bead,
-        from,
-        n,
-        hopes,
-        last,
-        prefixes,
-        &mut found,
-        work,
-    );
-    marking::mark_found(bead, from, n, &found, prefixes);
-    to
-}
-
-// The same, without a pass where every later step has the bead already: then no candidate is left to look at.
+// Adds the bead to the prefixes of the steps before which one of the next candidates serves. No pass is made where every later step has the
+// bead already: then no candidate is left to look at.
 fn mark_from(
     pattern: &[u16],
     log: &[u16],
@@ -111,7 +30,25 @@ fn mark_from(
     if done {
         return n;
     }
-    mark_pass(pattern, log, bead, from, n, hopes, last, prefixes, work)
+    let mut seeds = [0u16; 1024];
+    let mut found = [0u16; 1024];
+    let advance = serving::advance_by_rule(pattern, bead);
+    let to = serving::pass_from(
+        pattern,
+        log,
+        bead,
+        from,
+        n,
+        advance,
+        hopes,
+        last,
+        prefixes,
+        &mut seeds,
+        &mut found,
+        work,
+    );
+    marking::mark_found(bead, from, n, &found, prefixes);
+    to
 }
 
 // Marks the prefixes in turns: beads upwards and, for each bead, candidates upwards. Of the count of turns, i / n is the bead and i % n the

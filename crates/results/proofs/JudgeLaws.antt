@@ -1,16 +1,13 @@
 -- The judge's own functions, put together from its phases.
 -- Assumes nothing.
 use Prim.Native.Nat.{ℕ, _+_, _-_, _*_, _≤_, _<_}
-use mathlib.Core.Path.{_≡_, refl, sym, ap, ap₂, _∙_}
+use mathlib.Core.Path.{_≡_, sym, ap, ap₂, _∙_}
 use mathlib.Core.List.{List, _++_, append-assoc}
 use native.Mathlib.Omega.{arith}
-use lib.Dec.{T}
 use lib.ListN.{length, getD, take, drop, replicate, length-append, length-drop}
 use lib.Seq.{take-at, drop-append-add}
 use lib.Seq.{drop-drop}
 use Rattle.lists.proofs.Tables.{zeros-at}
-use Rattle.necklace.specs.Dag.{Dag}
-use Rattle.necklace.specs.Necklace.{Pattern}
 use Rattle.rows.specs.Rows.{rowsFrom, wholeFrom}
 use Rattle.rows.proofs.RowLaws.{length-rows}
 use Rattle.log_buffer.specs.Meaning.{logOf, stepsIn}
@@ -21,7 +18,7 @@ use Rattle.log_links.specs.Links.{Laid}
 use Rattle.log_links.proofs.LinkLaws.{laid}
 use Rattle.prefix_phase.proofs.MarkLaws.{all-beads}
 use Rattle.prefix_phase.specs.Marked.{Tried, Unmarked, Marks}
-use Rattle.walk_phase.specs.Walked.{WalkedBack}
+use Rattle.walk_places.specs.Walked.{WalkedBack}
 use Rattle.results.specs.Limits.{resultLength, rowLength}
 use Rattle.results.specs.Result.{rowsUpTo, wholeUpTo, rowsOf}
 use Rattle.results.specs.Arrays.{resultFrom, Sized}

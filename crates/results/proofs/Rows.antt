@@ -1,23 +1,23 @@
 -- What the two phases leave gives the rows of the theory, and the count.
 -- Assumes nothing.
-use Prim.Native.Nat.{ℕ, zero, suc, _+_, _-_, _*_, _≤_, _<_}
+use Prim.Native.Nat.{ℕ, zero, suc, _+_, _-_, _≤_, _<_}
 use mathlib.Core.Path.{_≡_, refl, sym, ap, ap₂, _∙_}
 use mathlib.Core.Bool.{Bool, cond}
-use mathlib.Core.List.{List, [], _++_}
+use mathlib.Core.List.{List, _++_}
 use native.Mathlib.Omega.{arith}
 use lib.Dec.{T}
 use lib.ListN.{getD}
 use Rattle.sets.specs.Sets.{member}
 use Rattle.necklace.specs.Dag.{Dag}
 use Rattle.necklace.specs.Necklace.{Pattern}
-use Rattle.necklace.specs.Compute.{holds?, prefixes, pivots, row}
+use Rattle.necklace.specs.Compute.{holds?, pivots}
 use Rattle.necklace.proofs.RowMeaning.{prefixes-member}
-use Rattle.rows.specs.Rows.{pivotAt, rowFrom, rowsFrom, wholeFrom}
+use Rattle.rows.specs.Rows.{pivotAt, rowsFrom, wholeFrom}
 use Rattle.rows.proofs.Meaning.{row-is}
 use Rattle.results.specs.Result.{rowsUpTo, wholeUpTo}
 use Rattle.prefix_phase.specs.Marked.{Marks}
-use Rattle.walk_phase.specs.Walked.{WalkedBack}
-use Rattle.walk_phase.proofs.WalkBack.{pivot-is}
+use Rattle.walk_places.specs.Walked.{WalkedBack}
+use Rattle.walk_places.proofs.PivotLaws.{pivot-is}
 
 module _ (G : Dag) (P : Pattern) (some : 1 ≤ P .count) (n : ℕ) (sets : List ℕ) (m : Marks G P n sets) where
   -- The last bead's bit is in the set of a vertex exactly if the whole pattern holds there.

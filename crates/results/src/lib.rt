@@ -8,7 +8,7 @@ ghost use Rattle.pattern_buffer.specs.Meaning.{patternOf};
 ghost use Rattle.prefix_phase.specs.Marked.{Tried, Unmarked, Marks};
 ghost use Rattle.log_links.specs.Links.{LastTo};
 ghost use Rattle.hope.specs.Hope.{Hopes};
-ghost use Rattle.walk_phase.specs.Walked.{WalkedBack};
+ghost use Rattle.walk_places.specs.Walked.{WalkedBack};
 ghost use Rattle.results.specs.Arrays.{resultFrom, Sized};
 ghost use Rattle.results.specs.Result.{wholeUpTo, rowsOf};
 ghost use Rattle.rows.specs.Rows.{wholeFrom};

@@ -1,35 +1,36 @@
 -- What a pass from candidates says: which of them serve before which steps.
-use Prim.Native.Nat.{ℕ, zero, suc, _+_, _≤_, _<_, min}
-use mathlib.Core.Path.{_≡_, refl, sym, ap, ap₂, _∙_, subst}
+use Prim.Native.Nat.{ℕ, zero, suc, _≤_, _<_, min}
+use mathlib.Core.Path.{_≡_, refl, sym, ap, _∙_, subst}
 use mathlib.Core.Bool.{Bool, true, false, cond, not, _&&_}
 use mathlib.Core.List.{List}
-use native.Mathlib.Decide.{decLt}
+use native.Mathlib.Decide.{ℕ-discrete, decLt}
 use native.Mathlib.Omega.{arith}
 use borrow.Author.Tests.{ne-eqb}
 use lib.Dec.{T, eqb, ltb, leb, leb→le, ltb→lt, le→leb, lt→ltb}
-use lib.ListN.{length, getD}
+use lib.ListN.{getD}
 use Rattle.lists.specs.Places.{at}
-use Rattle.sets.specs.Sets.{_∈_, member, setOf, overlaps, someBelow}
+use Rattle.sets.specs.Sets.{member, overlaps, someBelow}
 use Rattle.sets.proofs.Bits.{member-empty}
 use Rattle.sets.proofs.Laws.{member-setOf, no-member, setOf-above, someBelow-out, someBelow-in}
-use Rattle.sets.proofs.Truth.{same, and-i, and-l, and-r, no-false, false-no, true-yes, yes-true}
+use Rattle.sets.proofs.Truth.{same, and-i, and-l, and-r, false-no, true-yes}
 use Rattle.necklace.specs.Dag.{Dag, WellFormed}
 use Rattle.necklace.specs.Automaton.{Automaton}
 use Rattle.necklace.specs.Necklace.{Modality, SOME, ALL, Pattern}
 use Rattle.necklace.specs.Compute.{holds?, serves?, some?, satisfies?, satisfiesBy?}
 use Rattle.pattern_line.specs.Limits.{ruleAt}
-use Rattle.pattern_buffer.specs.Meaning.{labelsIn, beadsIn, automatonOf, patternOf}
+use Rattle.pattern_buffer.specs.Meaning.{labelsIn, automatonOf, patternOf}
 use Rattle.log_buffer.specs.Meaning.{stepsIn, logOf}
 use Rattle.log_links.specs.Links.{LastTo}
 use Rattle.forward.specs.Forward.{reaches?}
 use Rattle.forward.proofs.Agrees.{reaches-some, reaches-one, reaches-from}
 use Rattle.entering.proofs.EnterLaws.{next-within}
 use Rattle.hope.specs.Hope.{HopefulSet}
-use Rattle.passes.specs.Passes.{PassOf, startsIn, beadReaches, laneReaches, Found}
+use Rattle.pass_steps.specs.PassSteps.{startsIn, beadReaches, laneReaches}
+use Rattle.passes.specs.Passes.{PassOf, Found}
 use Rattle.starts.specs.declared.Starts.{Starts}
-use Rattle.starts.specs.Starts.{prefixAt, Earlier, Seeded, Apart, StartsOf}
+use Rattle.starts.specs.Starts.{prefixAt, Apart, StartsOf, ApartIf}
 use Rattle.marking.specs.Marking.{foundAt}
-use Rattle.serving.specs.Serving.{Asked, servesIn, FoundIn, Served}
+use Rattle.serving.specs.Serving.{Asked, servesIn, FoundIn, Served, ServedIf, AdvanceFor}
 
 module _ (pattern log : List ℕ) (n k from : ℕ) (prefixes hopes last : List ℕ) (ask : Asked pattern log n k from prefixes hopes last) (seeds : List ℕ) (starts : Starts)
     (of : StartsOf (prefixAt prefixes k) from n starts seeds) (found : List ℕ) (pass : Found pattern log k seeds (starts .first) (starts .until) found) where
@@ -238,14 +239,26 @@ module _ (pattern log : List ℕ) (n k from : ℕ) (prefixes hopes last : List �
     found-in-is to e = let a = of .some in let b = of .inside in
         record { some = omega arith; inside = omega arith; served = λ v l. rw e (found-is v l) }
 
-  pub found-apart : Apart from (starts .to) seeds → FoundIn pattern log n k from (starts .to) found
-  found-apart a = found-in-is (telling-apart a) (starts .to) refl
+  module _ (advance : ℕ) (each : ApartIf advance from (starts .to) seeds) where
+    pub found-by : AdvanceFor pattern k advance → FoundIn pattern log n k from (starts .to) found
+    found-by a = go (ℕ-discrete (at pattern (ruleAt k)) 2)
+      where
+        go : Dec (at pattern (ruleAt k) ≡ 2) → FoundIn pattern log n k from (starts .to) found
+        go (yes e) = found-in-is (telling-apart (each .apart (a .all e))) (starts .to) refl
+        go (no e) = found-in-is (telling-some e) (starts .to) refl
 
-  pub served-apart : Apart from (starts .to) seeds → Served pattern log n k from (starts .to) seeds found
-  served-apart a = served a (starts .to) refl
+    pub served-by : ServedIf advance pattern log n k from (starts .to) seeds found
+    served-by = record { each = λ e. served (each .apart e) (starts .to) refl }
 
-  pub found-some : (at pattern (ruleAt k) ≡ 2 → ⊥) → FoundIn pattern log n k from (starts .to) found
-  found-some rule = found-in-is (telling-some rule) (starts .to) refl
+-- ---- how lanes advance
+
+pub advance-all : (pattern : List ℕ) (k : ℕ) → AdvanceFor pattern k 1
+advance-all pattern k = record { small = omega arith; all = λ e. refl }
+
+pub advance-some : (pattern : List ℕ) (k : ℕ) → (at pattern (ruleAt k) ≡ 2 → ⊥) → AdvanceFor pattern k 0
+advance-some pattern k n = record { small = omega arith; all = λ e. absurd (n e) }
+
+pub ruleset advance-kit = (advance-all, advance-some)
 
 -- ---- what the functions ask for
 
@@ -271,8 +284,5 @@ module _ (pattern log : List ℕ) (n k from : ℕ) (prefixes hopes last : List �
   pub asked-until : (f : ℕ → Bool) (starts : Starts) (seeds : List ℕ) → StartsOf f from n starts seeds → starts .until ≤ stepsIn log
   asked-until f starts seeds of = let e = ask .steps-are in let a = of .inside in let b = of .end in omega arith
 
-pub ruleset ask-kit = (asked-pass, asked-far, asked-hope, asked-bead, asked-begin, asked-few, asked-until)
-
-pub ruleset sixteen-kit = (found-apart, served-apart, asked-bead)
-
-pub ruleset all-kit = (found-some, asked-bead)
+pub asked-advance : (pattern : List ℕ) (k advance : ℕ) → AdvanceFor pattern k advance → advance ≤ 1
+asked-advance pattern k advance a = a .small

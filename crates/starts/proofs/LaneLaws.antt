@@ -1,6 +1,6 @@
 -- A lane each for the starting steps.
 use Prim.Native.Nat.{ℕ, _+_, _≤_, _<_}
-use mathlib.Core.Path.{_≡_, refl, sym, _∙_, subst}
+use mathlib.Core.Path.{_≡_, sym, _∙_, subst}
 use mathlib.Core.Logic.{inl, inr}
 use mathlib.Core.Bool.{Bool, true, false, cond}
 use mathlib.Core.List.{List}
@@ -54,6 +54,3 @@ starts-full f advance from n lane starts l full d k x =
 
 pub starts-apart : (advance from to lane : ℕ) (l : List ℕ) → LanesBelow advance from to lane l → ApartIf advance from to l
 starts-apart advance from to lane l d = record { apart = d .apart }
-
-pub one-each : (from to : ℕ) (l : List ℕ) → ApartIf 1 from to l → Apart from to l
-one-each from to l d = d .apart refl

@@ -6,7 +6,7 @@ ghost use lib.ListN.{length, set};
 ghost use Rattle.sets.specs.Sets.{singleton};
 ghost use Rattle.pattern_line.specs.Limits.{mostBeads};
 ghost use Rattle.log_line.specs.Limits.{mostSteps};
-ghost use Rattle.starts.specs.Starts.{prefixAt, Apart, StartsOf, Looked, Extended, LanesBelow, ApartIf};
+ghost use Rattle.starts.specs.Starts.{prefixAt, StartsOf, Looked, Extended, LanesBelow, ApartIf};
 
 // The starting steps of a pass: they lie from `first` on and below `until` (none if `until` is not above `first`); every step from the one
 // asked for up to `to` has been looked at.
@@ -110,8 +110,8 @@ fn deal(
     }
 }
 
-// The starting steps from `from` on: all in lane 0 if `advance` is 0, and the next sixteen, a lane each, if it is 1.
-fn choose(
+// The starting steps from `from` on: the next sixteen, a lane each, if `advance` is 1; and all of them in lane 0 if it is 0.
+pub fn choose(
     prefixes: &[u16],
     bead: usize,
     from: usize,
@@ -138,21 +138,4 @@ fn choose(
         dealt = deal(prefixes, bead, from, advance, dealt, seeds);
     }
     dealt.starts
-}
-
-// All starting steps from `from` on in one lane: right for SOME, which asks for some starting step and not for which.
-pub fn all_in_one(prefixes: &[u16], bead: usize, from: usize, n: usize, seeds: &mut [u16]) -> Starts
-    requires { ⌜ (bead < mostBeads) × (from < n) × (n ≤ mostSteps) × (mostSteps ≤ length (now prefixes)) × (mostSteps ≤ length (now seeds)) ⌝ }
-    ensures { λ r. ⌜ StartsOf (prefixAt (now (prefixes .entry)) bead) from n r (now (seeds .exit)) ⌝ }
-{
-    choose(prefixes, bead, from, n, 0, seeds)
-}
-
-// The next sixteen starting steps from `from` on, a lane each.
-pub fn sixteen(prefixes: &[u16], bead: usize, from: usize, n: usize, seeds: &mut [u16]) -> Starts
-    requires { ⌜ (bead < mostBeads) × (from < n) × (n ≤ mostSteps) × (mostSteps ≤ length (now prefixes)) × (mostSteps ≤ length (now seeds)) ⌝ }
-    ensures { λ r. ⌜ StartsOf (prefixAt (now (prefixes .entry)) bead) from n r (now (seeds .exit)) ⌝ }
-    ensures { λ r. ⌜ Apart from (r .to) (now (seeds .exit)) ⌝ }
-{
-    choose(prefixes, bead, from, n, 1, seeds)
 }

@@ -1,4 +1,1 @@
-pub mod WalkBack
-pub mod WalkPhase
 pub mod WalkLaws
-pub mod TurnLaws

@@ -1,9 +1,10 @@
 -- `add_step` grows the sets, state by state.
-use Rattle.lanes.proofs.GrowLaws.{step-kit as kit}
-use Prim.Native.Nat.{_≤_, _<_, _-_, _+_}
+use Rattle.lanes.proofs.GatherLaws.{step-kit as kit}
+use Prim.Native.Nat.{_≤_, _-_}
 use mathlib.Core.Path.{_≡_}
-use lib.ListN.{length, take, getD}
-use Rattle.lanes.specs.Lanes.{Grown, lanesAt}
+use lib.ListN.{length}
+use Rattle.entering.specs.Entering.{Grown}
+use Rattle.lanes.specs.Lanes.{lanesAt}
 use borrow.Author.Needs.{needs}
 use Rattle.lanes.proofs.add_step.Statement.{statement}
 use Rattle.lanes.proofs.add_step.Tie as tie

@@ -1,5 +1,5 @@
 -- `begin_at` adds the lanes that begin, if some do.
-use Rattle.lanes.proofs.TurnLaws.{begin-kit as kit}
+use Rattle.lanes.proofs.PutLaws.{begin-kit as kit}
 use borrow.Author.Needs.{needs}
 use Rattle.lanes.proofs.begin_at.Statement.{statement}
 use Rattle.lanes.proofs.begin_at.Tie as tie

@@ -1,8 +1,8 @@
 -- `gather` goes through the listed steps.
 use Rattle.lanes.proofs.GatherLaws.{gather-end as kit}
-use Prim.Native.Nat.{_≤_, _<_, _-_, _+_}
+use Prim.Native.Nat.{_≤_, _-_}
 use mathlib.Core.Path.{_≡_}
-use lib.ListN.{length, take, getD}
+use lib.ListN.{length, take}
 use Rattle.lanes.specs.Lanes.{Gathered}
 use borrow.Author.Needs.{needs}
 use Rattle.lanes.proofs.gather.Statement.{statement}

@@ -1,8 +1,8 @@
 -- `put` writes the sixteen numbers of a step.
-use Rattle.lanes.proofs.TurnLaws.{put-kit as kit}
-use Prim.Native.Nat.{_≤_, _<_, _-_, _+_}
+use Rattle.lanes.proofs.PutLaws.{put-kit as kit}
+use Prim.Native.Nat.{_≤_, _-_}
 use mathlib.Core.Path.{_≡_}
-use lib.ListN.{length, take, getD}
+use lib.ListN.{length}
 use Rattle.lanes.specs.Lanes.{PutTo}
 use borrow.Author.Needs.{needs}
 use Rattle.lanes.proofs.put.Statement.{statement}

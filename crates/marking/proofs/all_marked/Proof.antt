@@ -1,5 +1,4 @@
 -- The loop keeps: the steps passed, from the last one down, have the bead.
-use mathlib.Core.Path.{_≡_}
 use Prim.Native.Nat.{_≤_}
 use Rattle.marking.proofs.AddLaws.{MarkedFrom}
 use borrow.Author.Needs.{needs}

@@ -2,7 +2,7 @@
 use Rattle.prefix_phase.proofs.MarkLaws.{turn-kit as kit, next-kit, turn-asked, turn-marked, none-marked}
 use Rattle.log_buffer.specs.Meaning.{logOf}
 use Rattle.pattern_buffer.specs.Meaning.{patternOf}
-use Prim.Native.Nat.{_≤_, _<_, _-_, _+_}
+use Prim.Native.Nat.{_≤_, _-_}
 use mathlib.Core.Path.{_≡_}
 use lib.ListN.{length}
 use Rattle.lanes.specs.Lanes.{workLength}

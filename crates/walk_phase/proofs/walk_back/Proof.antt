@@ -1,5 +1,5 @@
 -- `walk_back` lays out the places and walks.
-use Rattle.walk_phase.proofs.TurnLaws.{back-kit as kit, walk-tried}
+use Rattle.walk_phase.proofs.WalkLaws.{back-kit as kit, walk-by}
 use borrow.Author.Needs.{needs}
 use Rattle.walk_phase.proofs.walk_back.Statement.{statement}
 use Rattle.walk_phase.proofs.walk_back.Tie as tie
@@ -19,17 +19,14 @@ wide-requires-2 c κs = search (needs, kit)
 start-walk-requires : tie.Need-start-walk-requires
 start-walk-requires c κs = (search needs, (search needs, (search needs, search needs, search needs, search needs)))
 
-mul-walk-from : tie.Need-mul-walk-from
-mul-walk-from c = search (needs, kit)
+slice-aggregate-walk : tie.Need-slice-aggregate-walk
+slice-aggregate-walk c = search (needs, kit)
 
-slice-aggregate-walk-from : tie.Need-slice-aggregate-walk-from
-slice-aggregate-walk-from c = search (needs, kit)
+slice-aggregate-walk-2 : tie.Need-slice-aggregate-walk-2
+slice-aggregate-walk-2 c = search (needs, kit)
 
-slice-aggregate-walk-from-2 : tie.Need-slice-aggregate-walk-from-2
-slice-aggregate-walk-from-2 c = search (needs, kit)
-
-walk-from-requires : tie.Need-walk-from-requires
-walk-from-requires c κs = ((search needs, search needs, search needs, search needs), (search (needs, walk-tried), search needs))
+walk-requires : tie.Need-walk-requires
+walk-requires c κs = ((search needs, search needs, search needs, search needs), (search (needs, walk-by), (search needs, search needs)))
 
 same-length : tie.Need-same-length
 same-length c = search (needs, kit)
@@ -49,10 +46,9 @@ walk-back-spec =
     shared-slice-read-wide-2
     wide-requires-2
     start-walk-requires
-    mul-walk-from
-    slice-aggregate-walk-from
-    slice-aggregate-walk-from-2
-    walk-from-requires
+    slice-aggregate-walk
+    slice-aggregate-walk-2
+    walk-requires
     same-length
     same-length-2
     returns)

@@ -1,0 +1,3 @@
+pub mod BeginLaws
+pub mod AdvanceLaws
+pub mod FindLaws

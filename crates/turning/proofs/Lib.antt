@@ -1,0 +1,2 @@
+pub mod EnterLaws
+pub mod TurnLaws

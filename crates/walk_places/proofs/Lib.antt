@@ -1,0 +1,4 @@
+pub mod PivotLaws
+pub mod WalkLaws
+pub mod PlaceLaws
+pub mod SearchLaws
