@@ -99,22 +99,23 @@ static inline void turn(const struct judging *j, unsigned bead, unsigned first, 
     memcpy(j->work + 16 * x, here, sizeof after);
 }
 
-/* The lanes with which the bead holds at a step; by the lanes there. ALL takes away those that are in another state too. */
-static inline uint16_t reaching(const struct judging *j, unsigned bead, const uint16_t *here) {
-    uint16_t final = j->pattern[FINALS + bead], accepting = lanes_with(here, final);
-    if (j->pattern[RULES + bead] == ALL) return accepting & ~lanes_with(here, ~final);
-    return accepting;
+/* The lanes that are in some state of the set at a step, and for ALL in no other; by the lanes there. With the accepting states: those with
+ * which the bead holds. With the hopeful ones: those that may come to it yet. */
+static inline uint16_t reaching(const struct judging *j, unsigned bead, uint16_t set, const uint16_t *here) {
+    uint16_t in = lanes_with(here, set);
+    if (j->pattern[RULES + bead] == ALL) return in & ~lanes_with(here, ~set);
+    return in;
 }
 
-/* Finds for each step the lanes that reach it. Past `reach` no step has a link from one with a lane in a hopeful state: there the pass ends. */
+/* Finds for each step the lanes that reach it. Past `reach` no step has a link from one at which a lane is alive: there the pass ends. */
 static void pass(struct judging *j, unsigned bead, struct starts starts) {
     memset(j->found, 0, sizeof j->found);
     if (starts.first == starts.until) return;
     for (unsigned x = starts.first, reach = starts.until - 1; x <= reach; x++) {
         const uint16_t *here = j->work + 16 * x;
         turn(j, bead, starts.first, x, x < starts.until ? j->seeds[x] : 0);
-        j->found[x] = reaching(j, bead, here);
-        if (lanes_with(here, j->hopes[bead]) && j->last[x] > reach) reach = j->last[x];
+        j->found[x] = reaching(j, bead, j->pattern[FINALS + bead], here);
+        if (j->last[x] > reach && reaching(j, bead, j->hopes[bead], here)) reach = j->last[x];
     }
 }
 
