@@ -18,7 +18,7 @@ use Rattle.text.specs.Lines.{asLines, printable}
 use Rattle.fields.specs.Fields.{sameBytes}
 use Rattle.numbers.specs.Numbers.{digits, valueFrom, decimal}
 use Rattle.text.specs.Walk.{Outcome, accepted, faulty, walk}
-use Rattle.pattern_line.specs.Limits.{ruleAt, bufferLength as patternLength}
+use Rattle.layout.specs.Layout.{ruleAt, patternLength, boardAt, logLength, resultLength, workLength}
 use Rattle.pattern_header.specs.Header.{sameFields, nameBytes, areNames, among, distinct}
 use Rattle.pattern_order.specs.Row.{followsLast, breaksTurns}
 use Rattle.pattern_store.specs.Next.{statesOf, allWithin, allSingle}
@@ -26,7 +26,6 @@ use Rattle.pattern_store.specs.Format.{Known as PatternKnown, patternText}
 use Rattle.pattern_store.specs.Buffer.{beadCount, ruleOfBead, acceptingOf, nextOf, bufferOf as patternBuffer}
 use Rattle.pattern_buffer.specs.Meaning.{beadsIn, patternOf}
 use Rattle.pattern_texts.proofs.Buffers.{length-buffer}
-use Rattle.log_line.specs.Limits.{boardAt, bufferLength as logLength}
 use Rattle.log_line.specs.Header.{placeOf}
 use Rattle.numbers.specs.Listed.{areNumbers}
 use Rattle.log_line.specs.Step.{risingBelow, linkCount}
@@ -40,7 +39,6 @@ use Rattle.necklace.specs.Past.{Alike, OnlyAdds}
 use Rattle.necklace.specs.Compute.{row, prefixes, pivots, before, seek, holds?, some?, all?, backward, pass}
 use Rattle.necklace.specs.Tests.{route?, past?, alike?, onlyAdds?}
 use Rattle.necklace.proofs.Tests.{alike-agrees, onlyAdds-agrees}
-use Rattle.results.specs.Limits.{resultLength, workLength}
 use Rattle.judging.specs.Judge.{logIn, accepts, resultAfter}
 use Rattle.results.specs.Result.{zeros, rowIn}
 use Rattle.demands.specs.Demands.{ruleHolds}

@@ -24,15 +24,13 @@ use Rattle.necklace.proofs.Here as Here
 use Rattle.necklace.proofs.EqualPasts as EqualPasts
 use Rattle.necklace.proofs.OnlyAdds as OnlyAdds
 use Rattle.necklace.proofs.Duality.{dual-rows}
-use Rattle.pattern_line.specs.Limits.{mostStates, ruleAt, statesAt, acceptingAt, nextAt, bufferLength as patternLength}
-use Rattle.log_line.specs.Limits.{bufferLength as logLength}
+use Rattle.layout.specs.Layout.{mostStates, ruleAt, statesAt, acceptingAt, nextAt, patternLength, logLength}
 use Rattle.pattern_buffer.specs.Meaning.{labelsIn, beadsIn, modalityOf, automatonOf, patternOf}
 use Rattle.pattern_buffer.specs.Valid.{isPattern}
 use Rattle.pattern_buffer.proofs.Meaning.{pattern-well-formed}
 use Rattle.log_buffer.specs.Meaning.{logOf}
 use Rattle.log_buffer.specs.Valid.{isLog}
 use Rattle.log_buffer.proofs.Meaning.{log-well-formed}
-use Rattle.results.specs.Limits.{resultLength, workLength, rowLength}
 use Rattle.judging.specs.Judge.{patternIn, logIn, judgeAnswer, accepts, resultAfter}
 use Rattle.results.specs.Result.{wholeUpTo, rowIn}
 use Rattle.demands.specs.Demands.{ruleHolds, rowsWithBit, Exchanged}

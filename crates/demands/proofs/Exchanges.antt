@@ -17,7 +17,7 @@ use Rattle.sets.specs.Sets.{member, complement, single}
 use Rattle.sets.proofs.Laws.{ext, complement-below, member-complement, single-count}
 use Rattle.sets.proofs.Truth.{decide}
 use Rattle.necklace.specs.Automaton.{OneNext}
-use Rattle.pattern_line.specs.Limits.{mostBeads, mostStates, mostLabels, ruleAt, statesAt, acceptingAt, nextAt, bufferLength as patternLength}
+use Rattle.layout.specs.Layout.{mostBeads, mostStates, mostLabels, ruleAt, statesAt, acceptingAt, nextAt, patternLength}
 use Rattle.pattern_buffer.specs.Meaning.{labelsIn, beadsIn, automatonOf}
 use Rattle.pattern_buffer.specs.Valid.{isPattern}
 use Rattle.pattern_buffer.proofs.Places.{Bead, Unused, Next, Passes, passes-out, passes-in, bead-there, next-there, unused-out, bead-in, next-in, next-unused}

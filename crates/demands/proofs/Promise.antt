@@ -16,8 +16,7 @@ use Rattle.answer.specs.Answers.{acceptedWith, refusedAt}
 use Rattle.answer.specs.Faults.{Fault, firstFault, answerOr, keptOr}
 use Rattle.answer.proofs.FaultLaws.{First, Stopped, first-here, first-later, answer-refused, room-kept}
 use Rattle.necklace.proofs.RowMeaning.{row-meaning}
-use Rattle.pattern_line.specs.Limits.{mostLabels, bufferLength as patternLength}
-use Rattle.log_line.specs.Limits.{bufferLength as logLength}
+use Rattle.layout.specs.Layout.{mostLabels, patternLength, logLength, resultLength, workLength, rowLength}
 use Rattle.pattern_buffer.specs.Meaning.{labelsIn}
 use Rattle.pattern_buffer.specs.Valid.{isPattern}
 use Rattle.pattern_texts.specs.Given.{GivenPattern}
@@ -29,7 +28,6 @@ use Rattle.log_texts.specs.Given.{GivenLog}
 use Rattle.log_texts.proofs.LogBuffers.{log-buffers}
 use Rattle.log_buffer.proofs.Sound.{sound-iff}
 use Rattle.log_buffer.proofs.Meaning.{size-is}
-use Rattle.results.specs.Limits.{resultLength, workLength, rowLength}
 use Rattle.judging.specs.Judge.{patternIn, logIn, judgeFaults, judgeAnswer, accepts, resultAfter, workAfter}
 use Rattle.results.specs.Result.{wholeUpTo, rowsUpTo, rowsOf, zeros}
 use Rattle.judging.proofs.Calls.{Accepted, accepted-call, answer-accepted, result-accepted, work-accepted}

@@ -9,8 +9,7 @@ use lib.ListN.{length, getD, take}
 use lib.Seq.{take-take, length-take-le}
 use Rattle.answer.specs.Answers.{acceptedWith}
 use Rattle.text.specs.Walk.{accepted}
-use Rattle.pattern_line.specs.Limits.{bufferLength as patternLength}
-use Rattle.log_line.specs.Limits.{bufferLength as logLength}
+use Rattle.layout.specs.Layout.{patternLength, logLength, resultLength, workLength}
 use Rattle.pattern_store.specs.Format.{Known as PatternKnown, patternText}
 use Rattle.pattern_store.specs.Buffer.{bufferOf as patternBuffer}
 use Rattle.log_line.specs.Format.{Known as LogKnown, logText}
@@ -22,7 +21,6 @@ use Rattle.log_buffer.specs.Meaning.{logOf}
 use Rattle.log_buffer.specs.Valid.{isLog}
 use Rattle.log_texts.proofs.LogBuffers.{given-passes}
 use Rattle.necklace.specs.Compute.{row}
-use Rattle.results.specs.Limits.{resultLength, workLength}
 use Rattle.judging.specs.Judge.{patternIn, logIn, judgeAnswer, accepts, resultAfter}
 use Rattle.results.specs.Result.{rowIn}
 use Rattle.judging.proofs.Calls.{Accepted, accepted-call, row-in-result}

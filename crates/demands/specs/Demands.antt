@@ -6,7 +6,7 @@ use mathlib.Core.List.{List}
 use lib.ListN.{getD, set}
 use Rattle.lists.specs.Places.{at}
 use Rattle.sets.specs.Sets.{member, complement}
-use Rattle.pattern_line.specs.Limits.{ruleAt, statesAt, acceptingAt}
+use Rattle.layout.specs.Layout.{ruleAt, statesAt, acceptingAt}
 use Rattle.pattern_buffer.specs.Meaning.{labelsIn, beadsIn}
 use Rattle.results.specs.Result.{rowIn}
 

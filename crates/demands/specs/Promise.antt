@@ -8,12 +8,10 @@ use lib.ListN.{length, getD, drop}
 use Rattle.answer.specs.declared.Answer.{Answer}
 use Rattle.answer.specs.Answers.{acceptedWith, refusedAt}
 use Rattle.necklace.specs.Necklace.{IsRow}
-use Rattle.pattern_line.specs.Limits.{bufferLength as patternLength}
-use Rattle.log_line.specs.Limits.{bufferLength as logLength}
+use Rattle.layout.specs.Layout.{patternLength, logLength, resultLength, workLength, rowLength}
 use Rattle.pattern_buffer.specs.Meaning.{labelsIn}
 use Rattle.pattern_texts.specs.Given.{GivenPattern}
 use Rattle.log_texts.specs.Given.{GivenLog}
-use Rattle.results.specs.Limits.{resultLength, workLength, rowLength}
 use Rattle.judging.specs.Judge.{patternIn, logIn}
 use Rattle.results.specs.Result.{rowIn}
 use Rattle.demands.specs.Demands.{rowsWithBit}

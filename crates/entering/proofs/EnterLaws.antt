@@ -13,9 +13,9 @@ use Rattle.sets.proofs.Bits.{member-empty}
 use Rattle.sets.proofs.Laws.{member-setOf, member-singleton, someBelow-none, someBelow-more, members-out, overlaps-singleton}
 use Rattle.necklace.specs.Compute.{someOf, elem}
 use Rattle.necklace.proofs.Lists.{elem-members, someOf-members}
-use Rattle.pattern_line.specs.Limits.{nextAt}
+use Rattle.layout.specs.Layout.{nextAt}
 use Rattle.pattern_buffer.specs.Meaning.{automatonOf}
-use Rattle.forward.specs.Forward.{reached}
+use Rattle.necklace.specs.Forward.{reached}
 use Rattle.entering.specs.Entering.{unionOver}
 
 -- ---- the union of some sets of a list, set by set

@@ -7,7 +7,7 @@ use lib.Dec.{ltb}
 use lib.ListN.{length, getD}
 use Rattle.lists.specs.Places.{at}
 use Rattle.sets.specs.Sets.{member, union, someBelow}
-use Rattle.pattern_line.specs.Limits.{mostBeads, mostStates, statesAt, bufferLength as patternLength}
+use Rattle.layout.specs.Layout.{mostBeads, mostStates, statesAt, patternLength}
 
 -- A bead that a pattern buffer has.
 pub record BeadIn (pattern : List ℕ) (j : ℕ) : Type 0 where

@@ -5,8 +5,8 @@ ghost use Prim.Native.Nat.{_+_, _<_, _≤_};
 ghost use lib.ListN.{length};
 ghost use Rattle.lists.specs.Filled.{Filled};
 ghost use Rattle.sets.specs.Sets.{setOf, singleton, members};
-ghost use Rattle.forward.specs.Forward.{reached};
-ghost use Rattle.pattern_line.specs.Limits.{mostBeads, mostStates, bufferLength as patternLength};
+ghost use Rattle.necklace.specs.Forward.{reached};
+ghost use Rattle.layout.specs.Layout.{mostBeads, mostStates, patternLength};
 ghost use Rattle.pattern_buffer.specs.Meaning.{automatonOf};
 ghost use Rattle.entering.specs.Entering.{unionOver, spreadOver, Grown};
 
@@ -78,5 +78,9 @@ pub fn enter(pattern: &[u16], bead: usize, labels: u16, state: u16) -> u16
     if labels == 0 {
         return sets::singleton(state);
     }
-    union_over(labels, pattern, 26 + 256 * bead + 16 * (state as usize))
+    union_over(
+        labels,
+        pattern,
+        layout::NEXT_SETS + layout::SETS_A_BEAD * bead + layout::SETS_A_STATE * (state as usize),
+    )
 }

@@ -16,7 +16,7 @@ use Rattle.sets.proofs.Laws.{setOf-none, setOf-put, setOf-skip, setOf-end}
 use Rattle.sets.proofs.Laws.{member-setOf, member-union, someBelow-none, someBelow-more, someBelow-in, members-out}
 use Rattle.sets.proofs.Agree.{setOf-ext, setOf-empty}
 use Rattle.sets.proofs.Below.{all-out}
-use Rattle.pattern_line.specs.Limits.{acceptingAt, nextAt}
+use Rattle.layout.specs.Layout.{acceptingAt, nextAt}
 use Rattle.pattern_buffer.specs.Meaning.{automatonOf}
 use Rattle.entering.specs.Entering.{BeadIn}
 use Rattle.hope.specs.Hope.{HopefulSet, Hopes, AllBeads, leadsBy, onwardFrom, leadsInto, Has, Closed}

@@ -6,8 +6,8 @@ use lib.Dec.{T}
 use lib.ListN.{length, getD}
 use Rattle.lists.specs.Places.{at}
 use Rattle.sets.specs.Sets.{member, setOf, someBelow, overlaps}
-use Rattle.forward.specs.Forward.{Hopeful}
-use Rattle.pattern_line.specs.Limits.{mostBeads, nextAt, bufferLength as patternLength}
+use Rattle.necklace.specs.Forward.{Hopeful}
+use Rattle.layout.specs.Layout.{mostBeads, nextAt, patternLength}
 use Rattle.pattern_buffer.specs.Meaning.{automatonOf, beadsIn}
 use Rattle.entering.specs.Entering.{BeadIn}
 

@@ -4,7 +4,7 @@ ghost use Prim.Native.Nat.{_<_, _≤_};
 ghost use lib.ListN.{length};
 ghost use Rattle.lists.specs.Filled.{Filled};
 ghost use Rattle.sets.specs.Sets.{setOf};
-ghost use Rattle.pattern_line.specs.Limits.{mostBeads, mostStates, bufferLength as patternLength};
+ghost use Rattle.layout.specs.Layout.{mostBeads, mostStates, patternLength};
 ghost use Rattle.entering.specs.Entering.{BeadIn};
 ghost use Rattle.hope.specs.Hope.{HopefulSet, Hopes, AllBeads, onwardFrom, leadsInto, Closed};
 
@@ -13,10 +13,10 @@ fn onward(pattern: &[u16], bead: usize, state: usize) -> u16
     requires { ⌜ (patternLength ≤ length (now pattern)) × (bead < mostBeads) × (state < mostStates) ⌝ }
     ensures { λ r. ⌜ r ≡ onwardFrom (now (pattern .entry)) bead state ⌝ }
 {
-    let from = 26 + 256 * bead + 16 * state;
+    let from = layout::NEXT_SETS + layout::SETS_A_BEAD * bead + layout::SETS_A_STATE * state;
     let mut all: u16 = 0;
     let mut label = 0;
-    while label < 16 {
+    while label < layout::MOST_LABELS {
         all = sets::union(all, pattern[from + label]);
         label += 1;
     }
@@ -30,7 +30,7 @@ fn all_onward(pattern: &[u16], bead: usize) -> [u16; 16]
 {
     let mut onwards = [0u16; 16];
     let mut state = 0;
-    while state < 16 {
+    while state < layout::MOST_STATES {
         onwards[state] = onward(pattern, bead, state);
         state += 1;
     }
@@ -45,7 +45,7 @@ fn leading(onwards: &[u16], set: u16) -> u16
     let values = entering::state_values();
     let mut all: u16 = 0;
     let mut state = 0;
-    while state < 16 {
+    while state < layout::MOST_STATES {
         let meets = sets::overlaps(onwards[state], set);
         let one = values[state];
         state += 1;
@@ -63,7 +63,7 @@ fn grown(onwards: &[u16], first: u16) -> u16
 {
     let mut set = first;
     let mut round: usize = 0;
-    while round < 16 {
+    while round < layout::MOST_STATES {
         let more = sets::union(set, leading(onwards, set));
         if more == set {
             return set;
@@ -80,7 +80,7 @@ fn hopeful(pattern: &[u16], bead: usize) -> u16
     ensures { λ r. ⌜ HopefulSet (now (pattern .entry)) bead r ⌝ }
 {
     let onwards = all_onward(pattern, bead);
-    grown(&onwards, pattern[18 + bead])
+    grown(&onwards, pattern[layout::FINAL_SETS + bead])
 }
 
 // The same for each bead of the pattern.

@@ -12,8 +12,7 @@ use lib.Seq.{length-take-le}
 use Rattle.answer.specs.declared.Answer.{Answer}
 use Rattle.answer.proofs.FaultLaws.{numbered, never-accepted}
 use Rattle.text.specs.Walk.{badSize}
-use Rattle.pattern_line.specs.Limits.{mostText as patternMost}
-use Rattle.log_line.specs.Limits.{mostText as logMost}
+use Rattle.layout.specs.Layout.{mostPatternText, mostLogText}
 use Rattle.pattern_store.specs.Format.{patternText}
 use Rattle.log_line.specs.Format.{logText}
 use Rattle.pattern.specs.Answer.{hostFaults as patternFaults, answerOf, patternAnswer}
@@ -27,11 +26,11 @@ filled text most size e h g =
     ap (λ (b : Bool). eqb (length (take size text)) 0 || b) (lt-ltb most (length (take size text)) (omega arith)) ∙ or-true (eqb (length (take size text)) 0)
 
 -- The text of a bad size is refused, whatever the host's tests say.
-pattern-refused : (t pattern : List ℕ) → badSize patternMost t ≡ true → patternAnswer t pattern .number ≡ 0 → ⊥
+pattern-refused : (t pattern : List ℕ) → badSize mostPatternText t ≡ true → patternAnswer t pattern .number ≡ 0 → ⊥
 unfolding numbered
 pattern-refused t pattern e = never-accepted (patternFaults pattern) (answerOf t (patternText t)) refl (rw e (λ z. absurd (omega arith)))
 
-log-refused : (t log : List ℕ) (labels : ℕ) → badSize logMost t ≡ true → logAnswer t labels log .number ≡ 0 → ⊥
+log-refused : (t log : List ℕ) (labels : ℕ) → badSize mostLogText t ≡ true → logAnswer t labels log .number ≡ 0 → ⊥
 unfolding numbered
 log-refused t log labels e = never-accepted (logFaults labels log) (textAnswer t (logText labels t)) refl (rw e (λ z. absurd (omega arith)))
 
@@ -44,13 +43,13 @@ free text most size e h good = go (decLt size (length text))
     go (no k) = absurd (good (filled text most size e h (omega arith)))
 
 pub pattern-whole : (text pattern pattern′ : List ℕ) (r : Answer) (d : PatternRead text pattern r pattern′)
-    → length text ≡ suc patternMost → r .number ≡ 0 → d .size < length text
+    → length text ≡ suc mostPatternText → r .number ≡ 0 → d .size < length text
 pattern-whole text pattern pattern′ r d e z =
-    free text patternMost (d .size) e (d .fits)
+    free text mostPatternText (d .size) e (d .fits)
     (λ bad. pattern-refused (take (d .size) text) pattern bad (sym (ap (λ (a : Answer). a .number) (d .answered)) ∙ z))
 
 pub log-whole : (text pattern log log′ : List ℕ) (r : Answer) (d : LogRead text pattern log r log′)
-    → length text ≡ suc logMost → r .number ≡ 0 → d .size < length text
+    → length text ≡ suc mostLogText → r .number ≡ 0 → d .size < length text
 log-whole text pattern log log′ r d e z =
-    free text logMost (d .size) e (d .fits)
+    free text mostLogText (d .size) e (d .fits)
     (λ bad. log-refused (take (d .size) text) log (getD pattern 0 0) bad (sym (ap (λ (a : Answer). a .number) (d .answered)) ∙ z))

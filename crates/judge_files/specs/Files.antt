@@ -6,8 +6,7 @@ use mathlib.Core.List.{List}
 use mathlib.Core.Path.{_≡_}
 use lib.ListN.{length, getD, take}
 use Rattle.answer.specs.declared.Answer.{Answer}
-use Rattle.pattern_line.specs.Limits.{mostText as patternMost}
-use Rattle.log_line.specs.Limits.{mostText as logMost}
+use Rattle.layout.specs.Layout.{mostPatternText, mostLogText}
 use Rattle.pattern.specs.Answer.{patternAnswer, patternAfter}
 use Rattle.log.specs.Answer.{logAnswer, logAfter}
 use Rattle.judging.specs.Judge.{judgeAnswer, resultAfter, workAfter}
@@ -50,5 +49,5 @@ pub data Run (patternText logText pattern log result work : List ℕ) (r : Answe
 
 -- Each text buffer has a place more than the longest text.
 pub record TextRooms (patternText logText : List ℕ) : Type 0 where
-  pub pattern-room : length patternText ≡ suc patternMost
-  pub log-room : length logText ≡ suc logMost
+  pub pattern-room : length patternText ≡ suc mostPatternText
+  pub log-room : length logText ≡ suc mostLogText

@@ -12,9 +12,7 @@ use lib.Seq.{length-take-le}
 use Rattle.answer.specs.declared.Answer.{Answer}
 use Rattle.answer.specs.Answers.{acceptedWith}
 use Rattle.answer.specs.Faults.{firstFault, answerOr, keptOr}
-use Rattle.pattern_line.specs.Limits.{bufferLength as patternLength}
-use Rattle.log_line.specs.Limits.{bufferLength as logLength}
-use Rattle.results.specs.Limits.{resultLength, workLength}
+use Rattle.layout.specs.Layout.{patternLength, logLength, resultLength, workLength}
 use Rattle.judging.specs.Judge.{patternIn, logIn, bufferFaults, judgeFaults, judgeAnswer, resultAfter, workAfter}
 use Rattle.results.specs.Result.{wholeUpTo, rowsOf, zeros}
 use Rattle.judging.specs.Fit.{fitAnswer, fitResult, fitWork}

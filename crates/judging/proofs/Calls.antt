@@ -20,13 +20,11 @@ use Rattle.necklace.specs.Dag.{Dag}
 use Rattle.necklace.specs.Necklace.{Pattern}
 use Rattle.necklace.specs.Compute.{holds?, row}
 use Rattle.results.proofs.RowPlaces.{row-there}
-use Rattle.pattern_line.specs.Limits.{bufferLength as patternLength}
-use Rattle.log_line.specs.Limits.{bufferLength as logLength}
+use Rattle.layout.specs.Layout.{patternLength, logLength, resultLength, workLength, rowLength}
 use Rattle.pattern_buffer.specs.Meaning.{patternOf, labelsIn}
 use Rattle.pattern_buffer.specs.Valid.{isPattern}
 use Rattle.log_buffer.specs.Meaning.{logOf}
 use Rattle.log_buffer.specs.Valid.{isLog}
-use Rattle.results.specs.Limits.{resultLength, workLength, rowLength}
 use Rattle.judging.specs.Judge.{patternIn, logIn, judgeFaults, judgeAnswer, accepts, resultAfter, workAfter}
 use Rattle.results.specs.Result.{rowsUpTo, wholeUpTo, rowsOf, zeros, rowIn}
 

@@ -7,7 +7,7 @@ use Rattle.answer.specs.Answers.{acceptedWith}
 use Rattle.answer.specs.Faults.{firstFault, answerOr, keptOr}
 use Rattle.pattern_buffer.specs.Meaning.{patternOf}
 use Rattle.log_buffer.specs.Meaning.{logOf}
-use Rattle.results.specs.Limits.{resultLength}
+use Rattle.layout.specs.Layout.{resultLength}
 use Rattle.judging.specs.Judge.{bufferFaults}
 use Rattle.results.specs.Result.{wholeUpTo, rowsOf, zeros}
 

@@ -10,13 +10,11 @@ use Rattle.answer.specs.Answers.{acceptedWith, refusedAt}
 use Rattle.answer.specs.Faults.{Fault, when, firstFault, answerOr, keptOr}
 use Rattle.necklace.specs.Dag.{Dag}
 use Rattle.necklace.specs.Necklace.{Pattern}
-use Rattle.pattern_line.specs.Limits.{bufferLength as patternLength}
-use Rattle.log_line.specs.Limits.{bufferLength as logLength}
+use Rattle.layout.specs.Layout.{patternLength, logLength, resultLength, workLength}
 use Rattle.pattern_buffer.specs.Meaning.{patternOf, labelsIn}
 use Rattle.pattern_buffer.specs.Valid.{isPattern}
 use Rattle.log_buffer.specs.Meaning.{logOf}
 use Rattle.log_buffer.specs.Valid.{isLog}
-use Rattle.results.specs.Limits.{resultLength, workLength}
 use Rattle.results.specs.Result.{wholeUpTo, rowsOf, zeros}
 
 -- What the two buffers are read as.

@@ -30,17 +30,22 @@ pub fn judge(pattern: &[u16], log: &[u16], result: &mut [u16], work: &mut [u16])
     ensures { λ _. ⌜ now (result .exit) ≡ resultAfter (now (pattern .entry)) (now (log .entry)) (now (result .entry)) (now (work .entry)) ⌝ }
     ensures { λ _. ⌜ now (work .exit) ≡ workAfter (now (pattern .entry)) (now (log .entry)) (now (result .entry)) (now (work .entry)) ⌝ }
 {
-    if log.len() < 7170 {
+    if log.len() < layout::LOG_LENGTH {
         return answer::refused(1, 0);
     }
-    if pattern.len() < 2074 {
+    if pattern.len() < layout::PATTERN_LENGTH {
         return answer::refused(2, 0);
     }
-    if result.len() < 10240 {
+    if result.len() < layout::RESULT_LENGTH {
         return answer::refused(3, 0);
     }
-    if work.len() < 16384 {
+    if work.len() < layout::WORK_LENGTH {
         return answer::refused(4, 0);
     }
-    judge_fit(&pattern[..2074], &log[..7170], result, &mut work[..16384])
+    judge_fit(
+        &pattern[..layout::PATTERN_LENGTH],
+        &log[..layout::LOG_LENGTH],
+        result,
+        &mut work[..layout::WORK_LENGTH],
+    )
 }

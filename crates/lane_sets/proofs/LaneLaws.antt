@@ -8,7 +8,7 @@ use Rattle.lists.specs.Places.{at}
 use Rattle.sets.specs.Sets.{member, setOf, intersection, complement}
 use Rattle.sets.proofs.Agree.{setOf-ext}
 use Rattle.sets.proofs.Laws.{member-setOf, member-complement}
-use Rattle.pattern_line.specs.Limits.{ruleAt, statesAt}
+use Rattle.layout.specs.Layout.{ruleAt, statesAt}
 use Rattle.entering.specs.Entering.{unionOver}
 use Rattle.lane_sets.specs.LaneSets.{laneWith, laneHolds}
 

@@ -6,7 +6,7 @@ use lib.Dec.{eqb}
 use lib.ListN.{getD}
 use Rattle.lists.specs.Places.{at}
 use Rattle.sets.specs.Sets.{member, complement, someBelow}
-use Rattle.pattern_line.specs.Limits.{ruleAt, statesAt}
+use Rattle.layout.specs.Layout.{ruleAt, statesAt}
 use Rattle.lanes.specs.Lanes.{workAt}
 
 -- The lane is in some state of the set at x.

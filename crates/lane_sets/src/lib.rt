@@ -4,9 +4,8 @@ ghost use Prim.Native.Nat.{_<_, _≤_};
 ghost use lib.ListN.{length};
 ghost use Rattle.lists.specs.Places.{at};
 ghost use Rattle.sets.specs.Sets.{setOf, complement};
-ghost use Rattle.pattern_line.specs.Limits.{statesAt};
+ghost use Rattle.layout.specs.Layout.{statesAt, workLength};
 ghost use Rattle.entering.specs.Entering.{BeadIn};
-ghost use Rattle.lanes.specs.Lanes.{workLength};
 ghost use Rattle.lane_sets.specs.LaneSets.{laneWith, laneHolds};
 
 // The states of a bead outside the set.
@@ -14,7 +13,7 @@ fn other_states(pattern: &[u16], bead: usize, set: u16) -> u16
     requires { ⌜ BeadIn (now pattern) bead ⌝ }
     ensures { λ r. ⌜ r ≡ complement (at (now (pattern .entry)) (statesAt bead)) set ⌝ }
 {
-    sets::complement(set, pattern[10 + bead])
+    sets::complement(set, pattern[layout::STATE_COUNTS + bead])
 }
 
 // The lanes that are in some state of the set at the step x.
@@ -22,7 +21,7 @@ fn lanes_with(work: &[u16], x: usize, states: u16) -> u16
     requires { ⌜ (x < 1024) × (workLength ≤ length (now work)) ⌝ }
     ensures { λ r. ⌜ r ≡ setOf 16 (laneWith (now (work .entry)) x states) ⌝ }
 {
-    entering::union_over(states, work, 16 * x)
+    entering::union_over(states, work, layout::MOST_STATES * x)
 }
 
 // The lanes that are in some state of the set at the step x: an ALL bead takes away those that are in another state too. With the accepting
@@ -33,7 +32,7 @@ pub fn reaching(pattern: &[u16], bead: usize, set: u16, work: &[u16], x: usize) 
     ensures { λ r. ⌜ r ≡ setOf 16 (laneHolds (now (pattern .entry)) bead set (now (work .entry)) x) ⌝ }
 {
     let inside = lanes_with(work, x, set);
-    if pattern[2 + bead] == 2 {
+    if pattern[layout::RULES + bead] == 2 {
         let others = lanes_with(work, x, other_states(pattern, bead, set));
         return sets::intersection(inside, sets::complement(others, 16));
     }

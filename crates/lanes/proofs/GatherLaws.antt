@@ -13,7 +13,7 @@ use Rattle.sets.specs.Sets.{member, union}
 use Rattle.sets.proofs.Bits.{member-empty}
 use Rattle.sets.proofs.Laws.{member-union}
 use Rattle.necklace.specs.Compute.{someOf}
-use Rattle.log_line.specs.Limits.{linkAt}
+use Rattle.layout.specs.Layout.{linkAt}
 use Rattle.log_buffer.specs.Meaning.{stepsIn, linksInto}
 use Rattle.log_links.specs.Links.{Laid, Begins, Inside}
 use Rattle.log_links.proofs.LinkLaws.{links-order, links-small, links-are}

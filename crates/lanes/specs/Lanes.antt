@@ -8,10 +8,7 @@ use lib.ListN.{getD}
 use Rattle.sets.specs.Sets.{member}
 use Rattle.necklace.specs.Compute.{someOf}
 
--- The work buffer (document 01, "Lent rooms": the work room, 16,384): 16 numbers a step, one a state.
-abbrev pub workLength : ℕ
-workLength = 16384
-
+-- The work buffer (document 01, "Lent rooms": the work room): 16 numbers a step, one a state.
 abbrev pub workAt : ℕ → ℕ → ℕ
 workAt x q = 16 * x + q
 

@@ -1,10 +1,11 @@
 // The work buffer of sixteen forward passes: for each step and state the set of the lanes, of sixteen, that are in the state there.
 ghost use Prim.Native.Nat.{_+_, _<_, _≤_};
 ghost use lib.ListN.{length, take};
+ghost use Rattle.layout.specs.Layout.{workLength};
 ghost use Rattle.log_buffer.specs.Meaning.{stepsIn, linksInto};
 ghost use Rattle.log_links.specs.Links.{Laid, Inside};
 ghost use Rattle.entering.specs.Entering.{Grown};
-ghost use Rattle.lanes.specs.Lanes.{workLength, lanesAt, Gathered, PutTo, BegunAt};
+ghost use Rattle.lanes.specs.Lanes.{lanesAt, Gathered, PutTo, BegunAt};
 
 // Adds the lanes of the step w, state by state.
 fn add_step(work: &[u16], w: usize, here: &mut [u16])
@@ -12,8 +13,8 @@ fn add_step(work: &[u16], w: usize, here: &mut [u16])
     ensures { λ _. ⌜ Grown 16 (lanesAt (now (work .entry)) w) (now (here .entry)) (now (here .exit)) ⌝ }
 {
     let mut q = 0;
-    while q < 16 {
-        here[q] = sets::union(here[q], work[16 * w + q]);
+    while q < layout::MOST_STATES {
+        here[q] = sets::union(here[q], work[layout::MOST_STATES * w + q]);
         q += 1;
     }
 }
@@ -54,7 +55,12 @@ pub fn before(log: &[u16], x: usize, first: usize, work: &[u16]) -> [u16; 16]
     let mut here = [0u16; 16];
     let from = log_links::begin(log, x);
     let to = log_links::begin(log, x + 1);
-    gather(&log[3074 + from..3074 + to], first, work, &mut here);
+    gather(
+        &log[layout::LINKS + from..layout::LINKS + to],
+        first,
+        work,
+        &mut here,
+    );
     here
 }
 
@@ -64,8 +70,8 @@ pub fn put(here: &[u16], x: usize, work: &mut [u16])
     ensures { λ _. ⌜ PutTo 16 x (now (here .entry)) (now (work .entry)) (now (work .exit)) ⌝ }
 {
     let mut q = 0;
-    while q < 16 {
-        work[16 * x + q] = here[q];
+    while q < layout::MOST_STATES {
+        work[layout::MOST_STATES * x + q] = here[q];
         q += 1;
     }
 }
@@ -76,6 +82,6 @@ pub fn begin_at(begin: u16, x: usize, work: &mut [u16])
     ensures { λ _. ⌜ BegunAt x begin (now (work .entry)) (now (work .exit)) ⌝ }
 {
     if begin != 0 {
-        work[16 * x] = sets::union(work[16 * x], begin);
+        work[layout::MOST_STATES * x] = sets::union(work[layout::MOST_STATES * x], begin);
     }
 }

@@ -18,7 +18,7 @@ use Rattle.text.specs.Lines.{TextLine, linesOf, whole}
 use Rattle.text.specs.Walk.{Judged, refused, passed, Outcome, accepted, faulty, walk, badSize}
 use Rattle.text.specs.FirstBad.{FirstBad}
 use Rattle.text.proofs.FirstBadLaws.{walk-accepts, walk-refuses, Numbered, bad-number, size-faulty, size-passes}
-use Rattle.log_line.specs.Limits.{mostText, mostLine, bufferLength}
+use Rattle.layout.specs.Layout.{mostLogText, mostLine, logLength}
 use Rattle.log_line.specs.Header.{columnsOf, isHeader}
 use Rattle.log_line.specs.Step.{Step, stepOf, stepAt, malformed, misnumbered, mislinked, mislabelled, overLimit}
 use Rattle.log_line.specs.Format.{Known, judgeValues, judgeStep, judgeLine, logFormat, conclude, logText}
@@ -70,32 +70,32 @@ module _ (count : ℕ) where
 -- ---- the answer and the room, by the host's tests and by what the text says
 
 module _ (text : List ℕ) (count : ℕ) (buffer : List ℕ) where
-  module _ (h : length buffer < bufferLength) where
+  module _ (h : length buffer < logLength) where
     short-answer : logAnswer text count buffer ≡ refusedWith text 1 0
     unfolding firstFault answerOr logByte
-    short-answer = rw (lt-ltb (length buffer) bufferLength h) refl
+    short-answer = rw (lt-ltb (length buffer) logLength h) refl
 
     short-after : logAfter text count buffer ≡ buffer
     unfolding firstFault keptOr
-    short-after = rw (lt-ltb (length buffer) bufferLength h) refl
+    short-after = rw (lt-ltb (length buffer) logLength h) refl
 
-  module _ (long : bufferLength ≤ length buffer) (t : T (badCount count)) where
+  module _ (long : logLength ≤ length buffer) (t : T (badCount count)) where
     count-answer : logAnswer text count buffer ≡ refusedWith text 5 0
     unfolding firstFault answerOr logByte
-    count-answer = rw (le-ltb (length buffer) bufferLength long, yes-true (badCount count) t) refl
+    count-answer = rw (le-ltb (length buffer) logLength long, yes-true (badCount count) t) refl
 
     count-after : logAfter text count buffer ≡ buffer
     unfolding firstFault keptOr
-    count-after = rw (le-ltb (length buffer) bufferLength long, yes-true (badCount count) t) refl
+    count-after = rw (le-ltb (length buffer) logLength long, yes-true (badCount count) t) refl
 
   module _ (called : Called count buffer) where
     called-answer : logAnswer text count buffer ≡ textAnswer text (logText count text)
     unfolding firstFault answerOr
-    called-answer = rw (le-ltb (length buffer) bufferLength (called .long), no-false (badCount count) (called .counted)) refl
+    called-answer = rw (le-ltb (length buffer) logLength (called .long), no-false (badCount count) (called .counted)) refl
 
     called-after : logAfter text count buffer ≡ filledBy (logText count text) buffer
     unfolding firstFault keptOr
-    called-after = rw (le-ltb (length buffer) bufferLength (called .long), no-false (badCount count) (called .counted)) refl
+    called-after = rw (le-ltb (length buffer) logLength (called .long), no-false (badCount count) (called .counted)) refl
 
     said-answer : (number at : ℕ) → logText count text ≡ faulty number at → logAnswer text count buffer ≡ refusedWith text number at
     said-answer number at e = called-answer ∙ ap (textAnswer text) e
@@ -106,10 +106,10 @@ module _ (text : List ℕ) (count : ℕ) (buffer : List ℕ) where
   abbrev lines : Outcome Known
   lines = walk (judgeLine count) (logFormat count .start) 1 (linesOf text)
 
-  size-said : T (badSize mostText text) → logText count text ≡ faulty 20 0
+  size-said : T (badSize mostLogText text) → logText count text ≡ faulty 20 0
   size-said t = ap conclude (size-faulty (logFormat count) text t)
 
-  module _ (sized : T (badSize mostText text) → ⊥) where
+  module _ (sized : T (badSize mostLogText text) → ⊥) where
     line-said : (number at : ℕ) → lines ≡ faulty number at → logText count text ≡ faulty number at
     line-said number at e = ap conclude (size-passes (logFormat count) text sized ∙ e)
 
@@ -155,7 +155,7 @@ module _ (text : List ℕ) (count : ℕ) (buffer : List ℕ) where
 
   -- A call is refused by one of the list's entries, or it is accepted.
   pub log-promise : Promise text count buffer (logAnswer text count buffer) (logAfter text count buffer)
-  log-promise = host (ltb (length buffer) bufferLength) refl (badCount count) refl (badSize mostText text) refl
+  log-promise = host (ltb (length buffer) logLength) refl (badCount count) refl (badSize mostLogText text) refl
     where
       refuse : (number at : ℕ) → Refused text count buffer number at → Promised
       refuse number at r = refused-so number at r (answers number at r) (refused-keeps number at r)
@@ -174,16 +174,16 @@ module _ (text : List ℕ) (count : ℕ) (buffer : List ℕ) where
       walks r (faulty number at) w = refuse number at (line r (walk-line number at .0 w))
       walks r (accepted k) w = steps r k w (eqb (length (k .steps)) 0) refl
 
-      right : ltb (length buffer) bufferLength ≡ false → badCount count ≡ false → Called count buffer
-      right x y = record { long = ltb-false (length buffer) bufferLength x; counted = false-no (badCount count) y }
+      right : ltb (length buffer) logLength ≡ false → badCount count ≡ false → Called count buffer
+      right x y = record { long = ltb-false (length buffer) logLength x; counted = false-no (badCount count) y }
 
-      host : (a : Bool) → ltb (length buffer) bufferLength ≡ a → (b : Bool) → badCount count ≡ b → (c : Bool) → badSize mostText text ≡ c → Promised
-      host true x b y c z = refuse 1 0 (short (ltb-true (length buffer) bufferLength x))
-      host false x true y c z = refuse 5 0 (labels (ltb-false (length buffer) bufferLength x) (true-yes (badCount count) y))
+      host : (a : Bool) → ltb (length buffer) logLength ≡ a → (b : Bool) → badCount count ≡ b → (c : Bool) → badSize mostLogText text ≡ c → Promised
+      host true x b y c z = refuse 1 0 (short (ltb-true (length buffer) logLength x))
+      host false x true y c z = refuse 5 0 (labels (ltb-false (length buffer) logLength x) (true-yes (badCount count) y))
       host false x false y true z =
-          refuse 20 0 (size (right x y) (true-yes (badSize mostText text) z))
+          refuse 20 0 (size (right x y) (true-yes (badSize mostLogText text) z))
       host false x false y false z =
-          walks (record { called = right x y; sized = false-no (badSize mostText text) z }) lines refl
+          walks (record { called = right x y; sized = false-no (badSize mostLogText text) z }) lines refl
 
   refused-by : (number at : ℕ) → logAnswer text count buffer ≡ refusedWith text number at → (number ≡ 0 → ⊥) → Refused text count buffer number at
   refused-by number at e n = go log-promise

@@ -11,7 +11,7 @@ use lib.ListN.{length}
 use Rattle.answer.specs.Answers.{refusedAt, withoutByte}
 use Rattle.answer.specs.Faults.{firstFault, answerOr, keptOr}
 use Rattle.text.specs.Walk.{Outcome, accepted, faulty}
-use Rattle.log_line.specs.Limits.{bufferLength}
+use Rattle.layout.specs.Layout.{logLength}
 use Rattle.log_line.specs.Format.{Known, logText}
 use Rattle.log_walk.specs.Filled.{answerOf, filledBy}
 use Rattle.log_byte.proofs.ByteLaws.{byte-fits}
@@ -20,7 +20,7 @@ use Rattle.log.specs.Answer.{badCount, hostFaults, textAnswer, logAnswer
 module _ (text : List ℕ) (count : ℕ) (buffer : List ℕ) where
   pub numbers-stay : withoutByte (logAnswer text count buffer) ≡ answerOr (firstFault (hostFaults count buffer)) (answerOf (logText count text))
   unfolding firstFault answerOr
-  numbers-stay = go (ltb (length buffer) bufferLength) (badCount count) (logText count text)
+  numbers-stay = go (ltb (length buffer) logLength) (badCount count) (logText count text)
     where
       go : (b c : Bool) (o : Outcome Known)
           → withoutByte (answerOr (cond b (some (refusedAt 1 0)) (cond c (some (refusedAt 5 0)) none)) (textAnswer text o))
@@ -35,7 +35,7 @@ module _ (text : List ℕ) (count : ℕ) (buffer : List ℕ) where
 
   pub byte-small : logAnswer text count buffer .byte ≤ 241
   unfolding firstFault answerOr
-  byte-small = go (ltb (length buffer) bufferLength) (badCount count) (logText count text)
+  byte-small = go (ltb (length buffer) logLength) (badCount count) (logText count text)
     where
       go : (b c : Bool) (o : Outcome Known) → answerOr (cond b (some (refusedAt 1 0)) (cond c (some (refusedAt 5 0)) none)) (textAnswer text o) .byte ≤ 241
       go true c o = omega arith

@@ -7,7 +7,7 @@ use lib.ListN.{length}
 use Rattle.answer.specs.declared.Answer.{Answer}
 use Rattle.answer.specs.Answers.{acceptedWith, refusedAt, refusedIn}
 use Rattle.answer.specs.Faults.{Fault, when, firstFault, answerOr, keptOr}
-use Rattle.log_line.specs.Limits.{mostLabels, bufferLength}
+use Rattle.layout.specs.Layout.{mostLabels, logLength}
 use Rattle.text.specs.Walk.{Outcome, accepted, faulty}
 use Rattle.log_line.specs.Format.{Known, logText}
 use Rattle.log_byte.specs.Byte.{logByte}
@@ -20,7 +20,7 @@ badCount count = ltb count 1 || ltb mostLabels count
 -- The host's refusals: 1, the buffer is shorter than 7,170; then 5.
 abbrev pub hostFaults : ℕ → List ℕ → List Fault
 hostFaults count buffer =
-    when (ltb (length buffer) bufferLength) (refusedAt 1 0)
+    when (ltb (length buffer) logLength) (refusedAt 1 0)
     ∷ when (badCount count) (refusedAt 5 0)
     ∷ []
 

@@ -7,7 +7,7 @@ use mathlib.Core.List.{List, _++_}
 use lib.ListN.{length, drop}
 use Rattle.answer.specs.declared.Answer.{Answer}
 use Rattle.answer.specs.Answers.{acceptedWith}
-use Rattle.log_line.specs.Limits.{bufferLength}
+use Rattle.layout.specs.Layout.{logLength}
 use Rattle.log_line.specs.Format.{Known}
 use Rattle.log_store.specs.Buffer.{bufferOf}
 use Rattle.log.specs.Answer.{refusedWith}
@@ -18,7 +18,7 @@ pub record Read (text : List ℕ) (count : ℕ) (buffer : List ℕ) (answer : An
   pub known : Known
   pub lines : LinesPass text count known
   pub counts : answer ≡ acceptedWith (length (known .steps))
-  pub fills : buffer′ ≡ bufferOf (known .steps) ++ drop bufferLength buffer
+  pub fills : buffer′ ≡ bufferOf (known .steps) ++ drop logLength buffer
 
 pub data Promise (text : List ℕ) (count : ℕ) (buffer : List ℕ) (answer : Answer) (buffer′ : List ℕ) : Type 0 where
   refused : (number line : ℕ) → Refused text count buffer number line → answer ≡ refusedWith text number line → buffer′ ≡ buffer

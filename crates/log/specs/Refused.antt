@@ -8,19 +8,19 @@ use lib.ListN.{length}
 use Rattle.text.specs.Lines.{linesOf}
 use Rattle.text.specs.Walk.{badSize}
 use Rattle.text.specs.FirstBad.{AllPass, FirstBad}
-use Rattle.log_line.specs.Limits.{mostText, bufferLength}
+use Rattle.layout.specs.Layout.{mostLogText, logLength}
 use Rattle.log_line.specs.Format.{Known, judgeLine, logFormat}
 use Rattle.log.specs.Answer.{badCount}
 
 -- The host is not at fault: the room is as long as asked, and the label count is 1 to 16.
 pub record Called (count : ℕ) (buffer : List ℕ) : Type 0 where
-  pub long : bufferLength ≤ length buffer
+  pub long : logLength ≤ length buffer
   pub counted : T (badCount count) → ⊥
 
 -- And the text has a right size.
 pub record Readable (text : List ℕ) (count : ℕ) (buffer : List ℕ) : Type 0 where
   pub called : Called count buffer
-  pub sized : T (badSize mostText text) → ⊥
+  pub sized : T (badSize mostLogText text) → ⊥
 
 -- All lines pass 21 to 26, and this is known after the last.
 abbrev pub LinesPass : List ℕ → ℕ → Known → Type 0
@@ -29,11 +29,11 @@ LinesPass text count k = AllPass (judgeLine count) (logFormat count .start) 1 (l
 -- The refusal's number and line.
 pub data Refused (text : List ℕ) (count : ℕ) (buffer : List ℕ) : ℕ → ℕ → Type 0 where
   -- the log room is too short
-  short : length buffer < bufferLength → Refused text count buffer 1 0
+  short : length buffer < logLength → Refused text count buffer 1 0
   -- the label count is not 1 to 16
-  labels : bufferLength ≤ length buffer → T (badCount count) → Refused text count buffer 5 0
+  labels : logLength ≤ length buffer → T (badCount count) → Refused text count buffer 5 0
   -- the text is empty or too long
-  size : Called count buffer → T (badSize mostText text) → Refused text count buffer 20 0
+  size : Called count buffer → T (badSize mostLogText text) → Refused text count buffer 20 0
   -- the first bad line, by 21 to 26
   line : {number line : ℕ} → Readable text count buffer → FirstBad (judgeLine count) (logFormat count .start) 1 (linesOf text) number line
       → Refused text count buffer number line

@@ -24,10 +24,10 @@ fn read_text(text: &[u8], labels: u16, log: &mut [u16]) -> Answer
     if text.len() == 0 {
         return answer::refused(number_of(Refusal::Size), 0);
     }
-    if text.len() > 65535 {
+    if text.len() > layout::MOST_LOG_TEXT {
         return answer::refused(number_of(Refusal::Size), 0);
     }
-    match read_line(text, 240) {
+    match read_line(text, layout::MOST_LINE) {
         Line::Broken(_) => answer::refused(number_of(Refusal::Malformed), 1),
         Line::Whole(n) => match read_header(&text[..n]) {
             HeaderAnswer::Refused(f) => answer::refused(number_of(f), 1),
@@ -55,7 +55,7 @@ pub fn read_log(text: &[u8], labels: u16, log: &mut [u16]) -> Answer
     ensures { λ r. ⌜ r ≡ logAnswer (now (text .entry)) labels (now (log .entry)) ⌝ }
     ensures { λ _. ⌜ now (log .exit) ≡ logAfter (now (text .entry)) labels (now (log .entry)) ⌝ }
 {
-    if log.len() < 7170 {
+    if log.len() < layout::LOG_LENGTH {
         return answer::refused(1, 0);
     }
     if labels < 1 {

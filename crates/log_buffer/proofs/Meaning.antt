@@ -14,7 +14,7 @@ use Rattle.lists.specs.Places.{at}
 use Rattle.sets.specs.Sets.{_∈_, members}
 use Rattle.sets.proofs.Laws.{below-within, members-out}
 use Rattle.necklace.specs.Dag.{WellFormed}
-use Rattle.log_line.specs.Limits.{mostLabels, labelsAt, linkAt}
+use Rattle.layout.specs.Layout.{mostLabels, labelsAt, linkAt}
 use Rattle.log_buffer.specs.Meaning.{stepsIn, linksInto, logOf}
 use Rattle.log_buffer.specs.Valid.{isLog}
 use Rattle.log_buffer.proofs.Sound.{Sound, sound-iff, begin, width, begin-next, begin-inside}

@@ -13,7 +13,7 @@ use Rattle.lists.specs.Places.{at}
 use Rattle.sets.specs.Sets.{allBelow, within}
 use Rattle.sets.proofs.Truth.{and-i, and-l, and-r, or-cases, true-yes}
 use Rattle.sets.proofs.Below.{allBelow-iff}
-use Rattle.log_line.specs.Limits.{mostBoard, mostSteps, mostLinks, mostPreds, labelsAt, boardAt, beginAt, linkAt, bufferLength}
+use Rattle.layout.specs.Layout.{mostBoard, mostSteps, mostLinks, mostPreds, labelsAt, boardAt, beginAt, linkAt, logLength}
 use Rattle.log_buffer.specs.Meaning.{stepsIn}
 use Rattle.log_buffer.specs.Valid.{valuesOk, beginOk, linkOk, linksOk, restOk, graphOk, isLog}
 use Rattle.log_buffer.proofs.TestLaws.{links, rises}
@@ -26,7 +26,7 @@ abbrev pub width : List ℕ → ℕ → ℕ
 width b v = begin b (v + 1) - begin b v
 
 pub record Sound (count : ℕ) (b : List ℕ) : Type 0 where
-  pub long : bufferLength ≤ length b
+  pub long : logLength ≤ length b
   pub started : 1 ≤ stepsIn b
   pub few-steps : stepsIn b ≤ mostSteps
   -- label sets and boards
@@ -255,12 +255,12 @@ module _ (count : ℕ) (b : List ℕ) where
       (and-iff (allBelow 1024 (linksOk b)) (allBelow 4096 (restOk b)) (each-iff 1024 (linksOk b) (links-iff b)) (each-iff 4096 (restOk b) (rest-iff b)))))
 
   abbrev Parts : Type 0
-  Parts = (bufferLength ≤ length b) × ((1 ≤ stepsIn b) × ((stepsIn b ≤ mostSteps) × (((v : ℕ) → v < 1024 → Values count b v) × Graph)))
+  Parts = (logLength ≤ length b) × ((1 ≤ stepsIn b) × ((stepsIn b ≤ mostSteps) × (((v : ℕ) → v < 1024 → Values count b v) × Graph)))
 
   parts-iff : T (isLog count b) ↔ Parts
   unfolding isLog
   parts-iff =
-      and-iff (leb bufferLength (length b)) (leb 1 (stepsIn b) && (leb (stepsIn b) mostSteps && valuesOn)) (le-iff bufferLength (length b))
+      and-iff (leb logLength (length b)) (leb 1 (stepsIn b) && (leb (stepsIn b) mostSteps && valuesOn)) (le-iff logLength (length b))
       (and-iff (leb 1 (stepsIn b)) (leb (stepsIn b) mostSteps && valuesOn) (le-iff 1 (stepsIn b))
       (and-iff (leb (stepsIn b) mostSteps) valuesOn (le-iff (stepsIn b) mostSteps)
       (and-iff (allBelow 1024 (valuesOk count b)) (graphOk b) (each-iff 1024 (valuesOk count b) (values-iff count b)) graph-iff)))

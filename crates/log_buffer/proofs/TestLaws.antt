@@ -13,7 +13,7 @@ use Rattle.lists.specs.Places.{at}
 use Rattle.sets.specs.Sets.{allBelow, within}
 use Rattle.sets.proofs.Truth.{and-l, or-l, true-yes, yes-true}
 use Rattle.sets.proofs.Below.{allBelow-iff, allBelow-none, allBelow-on, allBelow-stop, allBelow-end}
-use Rattle.log_line.specs.Limits.{mostBoard, mostSteps, mostLinks, mostPreds, labelsAt, boardAt, beginAt, linkAt, bufferLength}
+use Rattle.layout.specs.Layout.{mostBoard, mostSteps, mostLinks, mostPreds, labelsAt, boardAt, beginAt, linkAt, logLength}
 use Rattle.log_buffer.specs.Meaning.{stepsIn}
 use Rattle.log_buffer.specs.Valid.{valuesOk, beginOk, linkOk, linksOk, restOk, graphOk, isLog}
 
@@ -226,32 +226,32 @@ begins-passed b r e f = sym e ∙ not-false r f
 pub ruleset graph-kit = (graph-start, graph-begins, graph-many, graph-links, graph-rest, begins-passed)
 
 module _ (count : ℕ) (b : List ℕ) where
-  pub log-short : length b < bufferLength → false ≡ isLog count b
+  pub log-short : length b < logLength → false ≡ isLog count b
   unfolding isLog
-  log-short h = simp (lt-leb bufferLength (length b) h)
+  log-short h = simp (lt-leb logLength (length b) h)
 
-  module _ (long : bufferLength ≤ length b) (n : ℕ) (steps : n ≡ stepsIn b) where
+  module _ (long : logLength ≤ length b) (n : ℕ) (steps : n ≡ stepsIn b) where
     pub log-none : n < 1 → false ≡ isLog count b
     unfolding isLog
-    log-none h = simp (le-leb bufferLength (length b) long, lt-leb 1 (stepsIn b) (omega arith))
+    log-none h = simp (le-leb logLength (length b) long, lt-leb 1 (stepsIn b) (omega arith))
 
     pub log-many : mostSteps < n → false ≡ isLog count b
     unfolding isLog
     log-many h =
-        simp (le-leb bufferLength (length b) long, le-leb 1 (stepsIn b) (omega arith), lt-leb (stepsIn b) mostSteps (omega arith))
+        simp (le-leb logLength (length b) long, le-leb 1 (stepsIn b) (omega arith), lt-leb (stepsIn b) mostSteps (omega arith))
 
     module _ (some : 1 ≤ n) (few : n ≤ mostSteps) (r : Bool) (values : r ≡ allBelow 1024 (valuesOk count b)) where
       pub log-values : r ≡ false → false ≡ isLog count b
       unfolding isLog
       log-values f =
           simp
-          (le-leb bufferLength (length b) long, le-leb 1 (stepsIn b) (omega arith), le-leb (stepsIn b) mostSteps (omega arith), sym values ∙ f)
+          (le-leb logLength (length b) long, le-leb 1 (stepsIn b) (omega arith), le-leb (stepsIn b) mostSteps (omega arith), sym values ∙ f)
 
       pub log-graph : r ≡ true → (q : Bool) → q ≡ graphOk b → q ≡ isLog count b
       unfolding isLog
       log-graph f q e =
           simp
-          (le-leb bufferLength (length b) long, le-leb 1 (stepsIn b) (omega arith), le-leb (stepsIn b) mostSteps (omega arith), sym values ∙ f)
+          (le-leb logLength (length b) long, le-leb 1 (stepsIn b) (omega arith), le-leb (stepsIn b) mostSteps (omega arith), sym values ∙ f)
           e
 
 pub ruleset log-kit = (log-short, log-none, log-many, log-values, log-graph, not-true, not-false)

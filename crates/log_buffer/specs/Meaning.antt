@@ -7,7 +7,7 @@ use lib.ListN.{take, drop}
 use Rattle.lists.specs.Places.{at}
 use Rattle.sets.specs.Sets.{members}
 use Rattle.necklace.specs.Dag.{Dag}
-use Rattle.log_line.specs.Limits.{mostLabels, labelsAt, beginAt, linkAt}
+use Rattle.layout.specs.Layout.{mostLabels, labelsAt, beginAt, linkAt}
 
 abbrev pub stepsIn : List ℕ → ℕ
 stepsIn b = at b 0

@@ -6,7 +6,7 @@ use lib.Dec.{eqb, leb, ltb}
 use lib.ListN.{length}
 use Rattle.lists.specs.Places.{at}
 use Rattle.sets.specs.Sets.{allBelow, within}
-use Rattle.log_line.specs.Limits.{mostBoard, mostSteps, mostLinks, mostPreds, labelsAt, boardAt, beginAt, linkAt, bufferLength}
+use Rattle.layout.specs.Layout.{mostBoard, mostSteps, mostLinks, mostPreds, labelsAt, boardAt, beginAt, linkAt, logLength}
 use Rattle.log_buffer.specs.Meaning.{stepsIn}
 
 -- The label set and the board of a step; zeros past the last step.
@@ -44,5 +44,5 @@ graphOk b =
 
 unfoldable pub isLog : ℕ → List ℕ → Bool
 isLog count b =
-    leb bufferLength (length b)
+    leb logLength (length b)
     && (leb 1 (stepsIn b) && (leb (stepsIn b) mostSteps && (allBelow 1024 (valuesOk count b) && graphOk b)))

@@ -7,7 +7,7 @@ use lib.Dec.{eqb, ltb}
 use lib.ListN.{take, drop}
 use Rattle.text.specs.Split.{split}
 use Rattle.line_places.specs.Place.{placeAt, linesBytes, lineAt, rankedAt}
-use Rattle.log_line.specs.Limits.{mostLine}
+use Rattle.layout.specs.Layout.{mostLine}
 use Rattle.log_line.specs.Header.{Columns, columnsOf}
 use Rattle.log_line.specs.Step.{Step, stepOf, stepAt, linkCount}
 use Rattle.log_places.specs.Place.{headerAt, malformedAt, limitAt}

@@ -116,7 +116,7 @@ pub fn byte_of(text: &[u8], number: u16, line: u16) -> u16
     if number < 21 {
         return 0;
     }
-    match inspect_line(text, line as usize, 240) {
+    match inspect_line(text, line as usize, layout::MOST_LINE) {
         LineFound::Broken(place) => place as u16,
         LineFound::Whole(start, end) => line_place(text, number, line, &text[start..end]) as u16,
     }

@@ -11,7 +11,7 @@ use Rattle.text.specs.Walk.{badSize}
 use Rattle.fields.specs.Fields.{partStart}
 use Rattle.line_places.specs.Place.{lineAt}
 use Rattle.line_places.specs.Fault.{FieldAtFault, ByteAtFault}
-use Rattle.log_line.specs.Limits.{mostText, mostLine}
+use Rattle.layout.specs.Layout.{mostLogText, mostLine}
 use Rattle.log_line.specs.Header.{isHeader}
 use Rattle.log_line.specs.Step.{Step, stepOf, stepAt, malformed, misnumbered, mislinked, mislabelled, linkCount, overLimit}
 use Rattle.log_places.specs.Place.{wrongName, wrongField, overLimitAt}
@@ -50,7 +50,7 @@ pub record InColumn (fs : List (List ℕ)) (i place : ℕ) : Type 0 where
 -- The number, the line, the byte.
 pub data Placed (count : ℕ) (text : List ℕ) : ℕ → ℕ → ℕ → Type 0 where
   -- 20: the text is empty or too large.
-  size : badSize mostText text ≡ true → Placed count text 20 0 0
+  size : badSize mostLogText text ≡ true → Placed count text 20 0 0
   -- 21: over 240 bytes; else no newline; else a byte outside 32 to 126, the first.
   long : {n : ℕ} → mostLine < length (bytesAt text n) → Placed count text 21 n 0
   unended : {n : ℕ} → length (bytesAt text n) ≤ mostLine → lineAt text n .newline ≡ false → Placed count text 21 n 0

@@ -2,7 +2,7 @@
 use Prim.Native.Nat.{ℕ, _≤_}
 use mathlib.Core.List.{List}
 use lib.Dec.{T}
-use Rattle.log_line.specs.Limits.{mostLabels}
+use Rattle.layout.specs.Layout.{mostLabels}
 use Rattle.log_buffer.specs.Valid.{isLog}
 
 pub record Tested (log : List ℕ) : Type 0 where

@@ -60,7 +60,14 @@ pub fn put_step(out: &mut [u8], at: usize, step: u16, log: &[u16]) -> usize
     ensures { λ r. ⌜ r ≤ at + 67 ⌝ }
 {
     let v = step as usize;
-    let from = 3074 + number_at(log, 2049 + v);
-    let to = 3074 + number_at(log, 2049 + (v + 1));
-    put_line(out, at, step, log[1025 + v], log[1 + v], &log[from..to])
+    let from = layout::LINKS + number_at(log, layout::BEGINS + v);
+    let to = layout::LINKS + number_at(log, layout::BEGINS + (v + 1));
+    put_line(
+        out,
+        at,
+        step,
+        log[layout::BOARDS + v],
+        log[layout::LABEL_SETS + v],
+        &log[from..to],
+    )
 }

@@ -40,10 +40,10 @@ pub fn links_at(line: &[u8], index: usize) -> usize
 fn is_over(links: usize, before: usize) -> bool
     ensures { λ r. ⌜ r ≡ (ltb 8 links || ltb 4096 (before + links)) ⌝ }
 {
-    if links > 8 {
+    if links > layout::MOST_PREDS {
         return true;
     }
-    before > 4096 - links
+    before > layout::MOST_LINKS - links
 }
 
 // The step, in this column, is over 1,023.
@@ -51,7 +51,7 @@ fn is_late(vertex: usize, v: usize, index: usize) -> bool
     ensures { λ r. ⌜ r ≡ (eqb index vertex && not (ltb v 1024)) ⌝ }
 {
     if index == vertex {
-        return v >= 1024;
+        return v >= layout::MOST_STEPS;
     }
     false
 }

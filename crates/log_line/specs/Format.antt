@@ -7,7 +7,7 @@ use lib.ListN.{length}
 use Rattle.text.specs.Split.{split}
 use Rattle.text.specs.Lines.{TextLine, whole}
 use Rattle.text.specs.Walk.{Judged, refused, passed, Outcome, accepted, faulty, Format, readText}
-use Rattle.log_line.specs.Limits.{mostText, mostLine}
+use Rattle.layout.specs.Layout.{mostLogText, mostLine}
 use Rattle.log_line.specs.Header.{Columns, columnsOf, isHeader}
 use Rattle.log_line.specs.Step.{Step, stepOf, stepAt, malformed, misnumbered, mislinked, mislabelled, overLimit}
 
@@ -41,7 +41,7 @@ judgeLine count k n l =
 -- 20: text empty or over 65,535 bytes.
 abbrev pub logFormat : ℕ → Format Known
 logFormat count = record {
-  most = mostText;
+  most = mostLogText;
   size-refusal = 20;
   start = record { columns = columnsOf []; steps = [] };
   judge = judgeLine count;

@@ -1,4 +1,3 @@
-pub mod Limits
 pub mod Header
 pub mod Step
 pub mod Format

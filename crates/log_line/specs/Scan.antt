@@ -5,7 +5,7 @@ use mathlib.Core.Bool.{Bool, true, not, cond}
 use mathlib.Core.List.{List}
 use lib.Dec.{eqb}
 use lib.ListN.{length, take}
-use Rattle.log_line.specs.Limits.{mostPreds}
+use Rattle.layout.specs.Layout.{mostPreds}
 use Rattle.numbers.specs.Listed.{listOf, isList}
 use Rattle.log_line.specs.Step.{mislinked}
 use Rattle.log_line.specs.declared.preds.PredScan.{PredScan}

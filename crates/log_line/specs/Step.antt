@@ -7,7 +7,7 @@ use lib.ListN.{length, getD}
 use Rattle.sets.specs.Sets.{within}
 use Rattle.numbers.specs.Numbers.{isNumber, valueOf}
 use Rattle.numbers.specs.Listed.{isList, listOf}
-use Rattle.log_line.specs.Limits.{mostBoard, mostSteps, mostLinks, mostPreds}
+use Rattle.layout.specs.Layout.{mostBoard, mostSteps, mostLinks, mostPreds}
 use Rattle.log_line.specs.Header.{Columns}
 
 -- What a line says of a step: its board, its label set, and the steps that it names as leading to it.

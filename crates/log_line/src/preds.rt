@@ -27,7 +27,7 @@ fn keep(preds: &mut [u16; 8], k: usize, u: u16)
     requires { ⌜ length (now preds) ≡ 8 ⌝ }
     ensures { λ _. ⌜ (length (now (preds .exit)) ≡ 8) × (now (preds .exit) ≡ set (now (preds .entry)) k u) ⌝ }
 {
-    if k < 8 {
+    if k < layout::MOST_PREDS {
         preds[k] = u;
     }
 }

@@ -15,7 +15,7 @@ use Rattle.sets.specs.Sets.{_∈_}
 use Rattle.sets.proofs.Truth.{yes-true}
 use Rattle.necklace.specs.Compute.{elem}
 use Rattle.necklace.proofs.Lists.{elem-in}
-use Rattle.log_line.specs.Limits.{linkAt}
+use Rattle.layout.specs.Layout.{linkAt}
 use Rattle.log_buffer.specs.Meaning.{stepsIn, linksInto}
 use Rattle.log_links.specs.Links.{Laid, Begins, Inside, Noted, LastTo}
 use Rattle.log_links.proofs.LinkLaws.{links-order, links-inside, links-are}

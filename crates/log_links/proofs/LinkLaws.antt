@@ -11,7 +11,7 @@ use Rattle.lists.specs.Places.{at}
 use Rattle.sets.specs.Sets.{_∈_, members}
 use Rattle.sets.proofs.Agree.{members-empty}
 use Rattle.necklace.specs.Dag.{WellFormed}
-use Rattle.log_line.specs.Limits.{beginAt, linkAt}
+use Rattle.layout.specs.Layout.{beginAt, linkAt}
 use Rattle.log_buffer.specs.Meaning.{stepsIn, linksInto, logOf}
 use Rattle.log_buffer.specs.Valid.{isLog}
 use Rattle.log_buffer.proofs.Meaning.{labels-are, link-below}

@@ -7,12 +7,12 @@ use lib.ListN.{length, getD}
 use Rattle.lists.specs.Places.{at}
 use Rattle.sets.specs.Sets.{_∈_}
 use Rattle.necklace.specs.Compute.{elem}
-use Rattle.log_line.specs.Limits.{mostSteps, mostLinks, beginAt, linkAt, bufferLength}
+use Rattle.layout.specs.Layout.{mostSteps, mostLinks, beginAt, linkAt, logLength}
 use Rattle.log_buffer.specs.Meaning.{stepsIn, linksInto, logOf}
 
 -- The links of a log buffer lie in order and inside it, and lead from smaller steps.
 pub record Laid (log : List ℕ) : Type 0 where
-  pub long : bufferLength ≤ length log
+  pub long : logLength ≤ length log
   pub some : 0 < stepsIn log
   pub few : stepsIn log ≤ mostSteps
   pub order : (v : ℕ) → v < stepsIn log → at log (beginAt v) ≤ at log (beginAt (v + 1))

@@ -2,7 +2,7 @@
 ghost use mathlib.Core.Path.{_≡_};
 ghost use Prim.Native.Nat.{_+_, _<_, _≤_};
 ghost use lib.ListN.{length};
-ghost use Rattle.log_line.specs.Limits.{mostSteps};
+ghost use Rattle.layout.specs.Layout.{mostSteps};
 ghost use Rattle.log_buffer.specs.Meaning.{stepsIn};
 ghost use Rattle.log_links.specs.Links.{Laid, Begins, Inside, BareIf, Noted, LastTo};
 
@@ -12,7 +12,7 @@ pub fn begin(log: &[u16], v: usize) -> usize
     requires { ⌜ v ≤ stepsIn (now log) ⌝ }
     ensures { λ r. ⌜ Begins (now (log .entry)) v r ⌝ }
 {
-    lists::wide(log[2049 + v])
+    lists::wide(log[layout::BEGINS + v])
 }
 
 // Has the step no labels? Entering it then leaves every state as it is.
@@ -21,7 +21,7 @@ pub fn is_bare(log: &[u16], x: usize) -> bool
     requires { ⌜ x < stepsIn (now log) ⌝ }
     ensures { λ r. ⌜ BareIf (now (log .entry)) x r ⌝ }
 {
-    log[1 + x] == 0
+    log[layout::LABEL_SETS + x] == 0
 }
 
 // Notes the step v for each listed step.
@@ -47,7 +47,11 @@ fn note_into(log: &[u16], v: usize, last: &mut [u16])
 {
     let from = begin(log, v);
     let to = begin(log, v + 1);
-    note(&log[3074 + from..3074 + to], v as u16, last);
+    note(
+        &log[layout::LINKS + from..layout::LINKS + to],
+        v as u16,
+        last,
+    );
 }
 
 // Notes each step for its predecessors, upwards, so that the last one stays.

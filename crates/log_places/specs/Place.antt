@@ -9,7 +9,7 @@ use Rattle.fields.specs.Fields.{sameBytes}
 use Rattle.numbers.specs.Numbers.{isNumber, valueOf}
 use Rattle.numbers.specs.Listed.{isList, listOf}
 use Rattle.line_places.specs.Place.{placeWhere}
-use Rattle.log_line.specs.Limits.{mostBoard, mostSteps, mostLinks, mostPreds}
+use Rattle.layout.specs.Layout.{mostBoard, mostSteps, mostLinks, mostPreds}
 use Rattle.log_line.specs.Header.{vertexName, boardName, labelsName, predsName, placeOf, Columns}
 
 -- 22. The field is one of the four names.

@@ -9,7 +9,7 @@ use Rattle.text.specs.Walk.{Judged, refused, passed}
 use Rattle.numbers.specs.Numbers.{numberOf}
 use Rattle.numbers.specs.Listed.{listOf}
 use Rattle.numbers.specs.declared.Number.the-variants.{Value}
-use Rattle.log_line.specs.Limits.{mostSteps, mostLinks, mostPreds}
+use Rattle.layout.specs.Layout.{mostSteps, mostLinks, mostPreds}
 use Rattle.log_line.specs.Header.{Columns}
 use Rattle.log_line.specs.Step.{Step, linkCount}
 use Rattle.log_line.specs.Format.{Known, judgeStep, judgeValues}

@@ -53,13 +53,13 @@ fn is_mislabelled(count: u16, v: u16, set: u16) -> bool
 pub fn is_over(links: usize, v: u16, before: u16) -> bool
     ensures { λ r. ⌜ r ≡ (ltb 8 links || (not (ltb v 1024) || ltb 4096 (before + links))) ⌝ }
 {
-    if links > 8 {
+    if links > layout::MOST_PREDS {
         return true;
     }
     if v >= 1024 {
         return true;
     }
-    before as usize + links > 4096
+    before as usize + links > layout::MOST_LINKS
 }
 
 // The values of step v, after steps with so many links, by the scan of its field `preds`, or 24, 25, 26.

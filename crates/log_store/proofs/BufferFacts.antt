@@ -10,7 +10,7 @@ use lib.Dec.{ltb}
 use lib.ListN.{length, getD, take, drop, replicate, length-append, length-map, List·getD-append}
 use lib.Seq.{getD-append-add, ext-getD, take-at, drop-at}
 use Rattle.lists.proofs.Tables.{zeros-at}
-use Rattle.log_line.specs.Limits.{labelsAt, boardAt, beginAt, linkAt}
+use Rattle.layout.specs.Layout.{labelsAt, boardAt, beginAt, linkAt}
 use Rattle.log_line.specs.Step.{Step, linkCount}
 use Rattle.log_store.specs.Buffer.{padded, begins, links, bufferOf}
 use Rattle.log_store.proofs.BufferLaws.{length-padded, buffer-blocks, toBoards, toBegins, toLinks, from-labels, from-boards}

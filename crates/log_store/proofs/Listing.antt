@@ -9,7 +9,7 @@ use Rattle.fields.specs.Fields.{sameBytes}
 use Rattle.text.specs.Lines.{asLines, printable}
 use Rattle.numbers.specs.Numbers.{digits, valueFrom, decimal}
 use Rattle.text.specs.Walk.{accepted, faulty, walk}
-use Rattle.log_line.specs.Limits.{labelsAt, boardAt, beginAt, linkAt}
+use Rattle.layout.specs.Layout.{labelsAt, boardAt, beginAt, linkAt}
 use Rattle.log_line.specs.Header.{placeOf}
 use Rattle.numbers.specs.Listed.{areNumbers}
 use Rattle.log_line.specs.Step.{Step, risingBelow, linkCount}

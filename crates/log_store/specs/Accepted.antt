@@ -4,7 +4,7 @@ use mathlib.Core.Path.{_≡_}
 use mathlib.Core.Bool.{false}
 use mathlib.Core.List.{List, [], _∷_, _++_}
 use lib.ListN.{length}
-use Rattle.log_line.specs.Limits.{mostBoard}
+use Rattle.layout.specs.Layout.{mostBoard}
 use Rattle.log_line.specs.Step.{Step, mislinked, mislabelled, overLimit}
 
 -- A step after those before it: none of 21 for its board, 24, 25 and 26 applies.

@@ -4,7 +4,7 @@ use mathlib.Core.Path.{_≡_}
 use mathlib.Core.List.{List, [], _∷_, _++_}
 use lib.ListN.{length, take, drop, set}
 use Rattle.text.specs.Walk.{refused, passed}
-use Rattle.log_line.specs.Limits.{labelsAt, boardAt, beginAt, linkAt, bufferLength}
+use Rattle.layout.specs.Layout.{labelsAt, boardAt, beginAt, linkAt, logLength}
 use Rattle.log_line.specs.Header.{Columns}
 use Rattle.log_line.specs.Step.{Step, linkCount}
 use Rattle.log_line.specs.Format.{Known, judgeStep}
@@ -24,7 +24,7 @@ linksStored old before us = take (linkAt before) old ++ (us ++ drop (linkAt befo
 
 -- The old numbers, where they are the buffer of steps before v with so many links, grow to the new by the step x.
 pub record StepStored (old : List ℕ) (v before : ℕ) (x : Step) (new : List ℕ) : Type 0 where
-  pub size : length new ≡ bufferLength
+  pub size : length new ≡ logLength
   pub grown : (xs : List Step) → length xs ≡ v → linkCount xs ≡ before → old ≡ bufferOf xs → new ≡ bufferOf (xs ++ (x ∷ []))
 
 -- Steps are known after a header with these columns.
@@ -41,6 +41,6 @@ Added count v c fs xs (Values w) new =
     × (new ≡ bufferOf (xs ++ (record { board = w .board; labels = w .labels; preds = us } ∷ [])))
 
 pub record LineAdded (count v before : ℕ) (c : Columns) (fs : List (List ℕ)) (old : List ℕ) (r : LineAnswer) (new : List ℕ) : Type 0 where
-  pub size : length new ≡ bufferLength
+  pub size : length new ≡ logLength
   pub limits : Limited v before r
   pub added : (xs : List Step) → length xs ≡ v → linkCount xs ≡ before → old ≡ bufferOf xs → Added count v c fs xs r new

@@ -18,8 +18,8 @@ fn store_values(buffer: &mut [u16], v: u16, before: u16, values: StepValues)
 {
     let i = v as usize;
     buffer[0] = v + 1;
-    buffer[1 + i] = values.labels;
-    buffer[1025 + i] = values.board;
+    buffer[layout::LABEL_SETS + i] = values.labels;
+    buffer[layout::BOARDS + i] = values.board;
     buffer[2050 + i] = before + values.count;
 }
 
@@ -28,7 +28,7 @@ fn store_links(buffer: &mut [u16], before: u16, preds: &[u16])
     requires { ⌜ (length (now buffer) ≡ 7170) × (before + length (now preds) ≤ 4096) ⌝ }
     ensures { λ _. ⌜ now (buffer .exit) ≡ linksStored (now (buffer .entry)) before (now (preds .entry)) ⌝ }
 {
-    let first = 3074 + before as usize;
+    let first = layout::LINKS + before as usize;
     lists::copy(preds, &mut buffer[first..]);
 }
 

@@ -4,7 +4,7 @@ ghost use mathlib.Core.Path.{_≡_};
 ghost use Prim.Native.Nat.{_<_, _≤_};
 ghost use lib.ListN.{length};
 ghost use Rattle.sets.specs.Sets.{allBelow, within};
-ghost use Rattle.log_line.specs.Limits.{bufferLength};
+ghost use Rattle.layout.specs.Layout.{logLength};
 ghost use Rattle.log_buffer.specs.Valid.{valuesOk, isLog};
 use log_buffer::graph_ok;
 use log_buffer::number_at;
@@ -21,12 +21,12 @@ fn labels_ok(s: u16, labels: u16) -> bool
 
 // The label set and the board of step v; zeros past the last step.
 fn values_ok(buffer: &[u16], labels: u16, v: usize) -> bool
-    requires { ⌜ bufferLength ≤ length (now buffer) ⌝ }
+    requires { ⌜ logLength ≤ length (now buffer) ⌝ }
     requires { ⌜ v < 1024 ⌝ }
     ensures { λ r. ⌜ r ≡ valuesOk labels (now (buffer .entry)) v ⌝ }
 {
-    let s = buffer[1 + v];
-    let board = buffer[1025 + v];
+    let s = buffer[layout::LABEL_SETS + v];
+    let board = buffer[layout::BOARDS + v];
     if v >= number_at(buffer, 0) {
         if s != 0 {
             return false;
@@ -44,11 +44,11 @@ fn values_ok(buffer: &[u16], labels: u16, v: usize) -> bool
 
 // The label sets and the boards of all steps.
 fn all_values(buffer: &[u16], labels: u16) -> bool
-    requires { ⌜ bufferLength ≤ length (now buffer) ⌝ }
+    requires { ⌜ logLength ≤ length (now buffer) ⌝ }
     ensures { λ r. ⌜ r ≡ allBelow 1024 (valuesOk labels (now (buffer .entry))) ⌝ }
 {
     let mut v = 0;
-    while v < 1024 {
+    while v < layout::MOST_STEPS {
         if !values_ok(buffer, labels, v) {
             return false;
         }
@@ -61,14 +61,14 @@ fn all_values(buffer: &[u16], labels: u16) -> bool
 pub fn is_log(buffer: &[u16], labels: u16) -> bool
     ensures { λ r. ⌜ r ≡ isLog labels (now (buffer .entry)) ⌝ }
 {
-    if buffer.len() < 7170 {
+    if buffer.len() < layout::LOG_LENGTH {
         return false;
     }
     let steps = number_at(buffer, 0);
     if steps < 1 {
         return false;
     }
-    if steps > 1024 {
+    if steps > layout::MOST_STEPS {
         return false;
     }
     if !all_values(buffer, labels) {

@@ -9,7 +9,7 @@ use lib.ListN.{length, getD, take}
 use Rattle.sets.specs.Sets.{members}
 use Rattle.necklace.specs.Dag.{Dag}
 use Rattle.text.specs.Walk.{accepted}
-use Rattle.log_line.specs.Limits.{mostLabels, bufferLength}
+use Rattle.layout.specs.Layout.{mostLabels, logLength}
 use Rattle.log_line.specs.Step.{Step}
 use Rattle.log_line.specs.Format.{Known, logText}
 use Rattle.log_store.specs.Buffer.{bufferOf}
@@ -24,8 +24,8 @@ use Rattle.log_texts.proofs.StepPlaces.{counted, steps-sound, labels-me
 use Rattle.log_texts.proofs.LogText.{known, text-accepted}
 
 -- A buffer that begins with what an accepted text gives passes, whatever follows, under any label count.
-pub given-passes : (count : ℕ) (b text : List ℕ) (k : Known) → logText count text ≡ accepted k → bufferLength ≤ length b
-    → take bufferLength b ≡ bufferOf (k .steps) → T (isLog count b)
+pub given-passes : (count : ℕ) (b text : List ℕ) (k : Known) → logText count text ≡ accepted k → logLength ≤ length b
+    → take logLength b ≡ bufferOf (k .steps) → T (isLog count b)
 given-passes count b text k reads long gives =
     sound-iff count b .1 (steps-sound count b (k .steps) long (accepted-whole count text k reads) gives)
 
@@ -35,8 +35,8 @@ pub record Means (G : Dag) (xs : List Step) : Type 0 where
   pub labels : (v : ℕ) → v < length xs → G .labels v ≡ members mostLabels (getD xs v noStep .labels)
   pub preds : (v : ℕ) → v < length xs → G .preds v ≡ getD xs v noStep .preds
 
-pub given-means : (count : ℕ) (b text : List ℕ) (k : Known) → logText count text ≡ accepted k → bufferLength ≤ length b
-    → take bufferLength b ≡ bufferOf (k .steps) → Means (logOf b) (k .steps)
+pub given-means : (count : ℕ) (b text : List ℕ) (k : Known) → logText count text ≡ accepted k → logLength ≤ length b
+    → take logLength b ≡ bufferOf (k .steps) → Means (logOf b) (k .steps)
 given-means count b text k reads long gives =
     let w = accepted-whole count text k reads in
     record {
@@ -46,7 +46,7 @@ given-means count b text k reads long gives =
     }
 
 -- A buffer that passes begins with what its steps give,
-pub steps-give : (count : ℕ) (b : List ℕ) → T (isLog count b) → take bufferLength b ≡ bufferOf (stepsOf b)
+pub steps-give : (count : ℕ) (b : List ℕ) → T (isLog count b) → take logLength b ≡ bufferOf (stepsOf b)
 steps-give count b t =
     places-given count b (sound-iff count b .0 t)
 

@@ -15,7 +15,7 @@ use Rattle.fields.specs.Fields.{sameBytes}
 use Rattle.numbers.specs.Numbers.{isNumber, valueOf, largest, spell}
 use Rattle.text.specs.Walk.{Judged, passed, accepted, proceed, walk, readText}
 use Rattle.text.proofs.WalkLaws.{size-right}
-use Rattle.log_line.specs.Limits.{mostLine, mostBoard, mostSteps, mostLinks, mostPreds, mostLabels}
+use Rattle.layout.specs.Layout.{mostLine, mostBoard, mostSteps, mostLinks, mostPreds, mostLabels}
 use Rattle.log_line.specs.Header.{Columns, placeOf, vertexName, boardName, labelsName, predsName}
 use Rattle.numbers.specs.Listed.{isList}
 use Rattle.log_line.specs.Step.{Step, stepOf, malformed, misnumbered, linkCount}

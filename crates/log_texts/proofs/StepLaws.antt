@@ -12,7 +12,7 @@ use lib.Seq.{getD-append-seam}
 use Rattle.sets.proofs.Truth.{both-true}
 use Rattle.sets.specs.Sets.{within}
 use Rattle.text.specs.Walk.{accepted}
-use Rattle.log_line.specs.Limits.{mostBoard, mostSteps, mostLinks, mostPreds}
+use Rattle.layout.specs.Layout.{mostBoard, mostSteps, mostLinks, mostPreds}
 use Rattle.log_line.specs.Step.{Step, risingBelow, mislinked, mislabelled, linkCount}
 use Rattle.log_line.specs.Format.{Known, logText}
 use Rattle.log_step.proofs.StepLaws.{in-limits}

@@ -12,7 +12,7 @@ use lib.ListN.{length, getD, take, drop, length-append, length-map, List·getD-a
 use lib.Seq.{take-length, take-append-le, take-all, getD-append-seam, getD-append-add, getD-take, getD-drop, take-add, drop-drop, ext-getD, length-take-le}
 use Rattle.lists.specs.Places.{at}
 use Rattle.sets.specs.Sets.{members}
-use Rattle.log_line.specs.Limits.{mostLabels, mostSteps, mostLinks, labelsAt, boardAt, beginAt, linkAt, bufferLength}
+use Rattle.layout.specs.Layout.{mostLabels, mostSteps, mostLinks, labelsAt, boardAt, beginAt, linkAt, logLength}
 use Rattle.log_line.specs.Step.{Step, linkCount}
 use Rattle.log_store.specs.Buffer.{begins, links, bufferOf}
 use Rattle.log_store.specs.Accepted.{StepsFit, none, more}
@@ -54,16 +54,16 @@ links-at (x ∷ xs) (suc v) k h l =
 
 -- ---- from the steps to the places
 
-module _ (count : ℕ) (b : List ℕ) (xs : List Step) (long : bufferLength ≤ length b) (whole : Whole count xs)
-    (given : take bufferLength b ≡ bufferOf xs) where
+module _ (count : ℕ) (b : List ℕ) (xs : List Step) (long : logLength ≤ length b) (whole : Whole count xs)
+    (given : take logLength b ≡ bufferOf xs) where
   few : length xs ≤ mostSteps
   few = few-steps (whole .fit)
 
   many : linkCount xs ≤ mostLinks
   many = few-links (whole .fit)
 
-  place : (i : ℕ) → i < bufferLength → at b i ≡ at (bufferOf xs) i
-  place i l = sym (getD-take bufferLength b i 0 l) ∙ ap (λ (c : List ℕ). at c i) given
+  place : (i : ℕ) → i < logLength → at b i ≡ at (bufferOf xs) i
+  place i l = sym (getD-take logLength b i 0 l) ∙ ap (λ (c : List ℕ). at c i) given
 
   held : Holds (bufferOf xs) xs
   held = buffer-holds xs few many
@@ -333,9 +333,9 @@ module _ (count : ℕ) (b : List ℕ) (s : Sound count b) where
           s .rest i h l ∙ sym (List·getD-eq-default (links (stepsOf b)) 0 {n = i} (omega arith))
 
   -- so the buffer begins with what its steps give
-  pub places-given : take bufferLength b ≡ bufferOf (stepsOf b)
-  places-given = holds-buffer (take bufferLength b) (stepsOf b) (few-steps (places-whole .fit)) (few-links (places-whole .fit)) (record {
-    size = length-take-le bufferLength b (s .long);
+  pub places-given : take logLength b ≡ bufferOf (stepsOf b)
+  places-given = holds-buffer (take logLength b) (stepsOf b) (few-steps (places-whole .fit)) (few-links (places-whole .fit)) (record {
+    size = length-take-le logLength b (s .long);
     count = front 0 (omega arith) ∙ sym (length-upTo b (stepsIn b));
     labels = λ v l.
         front (labelsAt v) (omega arith) ∙ value-at (λ x. x .labels) (λ w. at b (labelsAt w)) refl (λ w. refl) v (λ h. s .no-labels v h l);
@@ -345,5 +345,5 @@ module _ (count : ℕ) (b : List ℕ) (s : Sound count b) where
     link = λ i l. front (linkAt i) (omega arith) ∙ link-from i l;
   })
     where
-      front : (i : ℕ) → i < bufferLength → getD (take bufferLength b) i 0 ≡ at b i
-      front i l = getD-take bufferLength b i 0 l
+      front : (i : ℕ) → i < logLength → getD (take logLength b) i 0 ≡ at b i
+      front i l = getD-take logLength b i 0 l

@@ -5,7 +5,7 @@ use Rattle.lists.specs.Places.{at}
 use Rattle.text.specs.Split.{lineFrom}
 use Rattle.numbers.specs.Numbers.{spell}
 use Rattle.numbers.specs.Listed.{listWord}
-use Rattle.log_line.specs.Limits.{labelsAt, boardAt}
+use Rattle.layout.specs.Layout.{labelsAt, boardAt}
 use Rattle.log_line.specs.Header.{vertexName, boardName, labelsName, predsName}
 use Rattle.log_line.specs.Step.{Step}
 use Rattle.log_buffer.specs.Meaning.{stepsIn, linksInto}

@@ -5,7 +5,7 @@ use lib.ListN.{length, drop}
 use Rattle.answer.specs.declared.Answer.{Answer}
 use Rattle.answer.specs.Answers.{acceptedWith, refusedAt}
 use Rattle.text.specs.Walk.{Outcome, accepted, faulty}
-use Rattle.log_line.specs.Limits.{bufferLength}
+use Rattle.layout.specs.Layout.{logLength}
 use Rattle.log_line.specs.Format.{Known}
 use Rattle.log_store.specs.Buffer.{bufferOf}
 
@@ -16,5 +16,5 @@ answerOf (faulty number line) = refusedAt number line
 
 -- The buffer at exit: the numbers in front and the rest as it was, or all as it was.
 abbrev pub filledBy : Outcome Known → List ℕ → List ℕ
-filledBy (accepted k) buffer = bufferOf (k .steps) ++ drop bufferLength buffer
+filledBy (accepted k) buffer = bufferOf (k .steps) ++ drop logLength buffer
 filledBy (faulty number line) buffer = buffer

@@ -26,12 +26,12 @@ pub fn read_steps(
     ensures { λ r. ⌜ r ≡ answerOf (stepsRead labels (orderOf order) (drop start (now (text .entry)))) ⌝ }
     ensures { λ _. ⌜ now (log .exit) ≡ filledBy (stepsRead labels (orderOf order) (drop start (now (text .entry)))) (now (log .entry)) ⌝ }
 {
-    let mut buffer = [0u16; 7170];
+    let mut buffer = [0u16; layout::LOG_LENGTH];
     let mut at = start;
     let mut v: u16 = 0;
     let mut links: u16 = 0;
     while at < text.len() {
-        match read_line(&text[at..], 240) {
+        match read_line(&text[at..], layout::MOST_LINE) {
             Line::Broken(_) => {
                 return answer::refused(number_of(Refusal::Malformed), v + 2);
             }

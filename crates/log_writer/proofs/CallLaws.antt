@@ -14,7 +14,7 @@ use Rattle.sets.proofs.Truth.{true-yes}
 use Rattle.answer.specs.declared.Answer.{Answer}
 use Rattle.answer.specs.Answers.{acceptedWith}
 use Rattle.answer.specs.Faults.{firstFault, answerOr, keptOr}
-use Rattle.log_line.specs.Limits.{bufferLength, mostLabels}
+use Rattle.layout.specs.Layout.{logLength, mostLabels}
 use Rattle.log_buffer.specs.Valid.{isLog}
 use Rattle.log_texts.specs.Spelled.{textOf}
 use Rattle.writing.specs.Put.{Put}
@@ -50,9 +50,9 @@ pub ruleset fit-kit = (now-tested, count-fits, counted, text-laid)
 
 module _ (log text : List ℕ) (count : ℕ) (a : 7170 ≤ length log) (b : 1 ≤ count) (c : count ≤ 16) where
   -- Only 7 and 8 are left.
-  long-enough : firstFault (writeFaults log count text) ≡ firstFault (fitFaults (take bufferLength log) count text)
+  long-enough : firstFault (writeFaults log count text) ≡ firstFault (fitFaults (take logLength log) count text)
   unfolding firstFault
-  long-enough = rw (le-ltb (length log) bufferLength a, le-ltb count 1 b, le-ltb mostLabels count c)
+  long-enough = rw (le-ltb (length log) logLength a, le-ltb count 1 b, le-ltb mostLabels count c)
 
   pub call-answer : (r : Answer) → r ≡ fitAnswer (take 7170 log) count text → r ≡ writeAnswer log count text
   call-answer r e = e ∙ ap (λ (o : Option Answer). answerOr o (acceptedWith (length (logWritten log)))) (sym long-enough)

@@ -8,14 +8,14 @@ use lib.ListN.{length, take, drop}
 use Rattle.answer.specs.declared.Answer.{Answer}
 use Rattle.answer.specs.Answers.{acceptedWith, refusedAt}
 use Rattle.answer.specs.Faults.{Fault, when, firstFault, answerOr, keptOr}
-use Rattle.log_line.specs.Limits.{bufferLength}
+use Rattle.layout.specs.Layout.{logLength}
 use Rattle.log_buffer.specs.Valid.{isLog}
 use Rattle.log_texts.specs.Spelled.{textOf}
 use Rattle.log.specs.Answer.{badCount}
 
 -- The text: the header `vertex board labels preds`, and a line a step.
 abbrev pub logWritten : List ℕ → List ℕ
-logWritten log = textOf (take bufferLength log)
+logWritten log = textOf (take logLength log)
 
 -- 7, then 8, of a log buffer of its documented length.
 abbrev pub fitFaults : List ℕ → ℕ → List ℕ → List Fault
@@ -28,9 +28,9 @@ fitFaults log count text =
 -- count; 8, the text does not fit the text buffer.
 abbrev pub writeFaults : List ℕ → ℕ → List ℕ → List Fault
 writeFaults log count text =
-    when (ltb (length log) bufferLength) (refusedAt 1 0)
+    when (ltb (length log) logLength) (refusedAt 1 0)
     ∷ when (badCount count) (refusedAt 5 0)
-    ∷ fitFaults (take bufferLength log) count text
+    ∷ fitFaults (take logLength log) count text
 
 -- Accepted counts the bytes of the text.
 abbrev pub writeAnswer : List ℕ → ℕ → List ℕ → Answer

@@ -41,7 +41,7 @@ pub fn write_log(log: &[u16], labels: u16, text: &mut [u8]) -> Answer
     ensures { λ r. ⌜ r ≡ writeAnswer (now (log .entry)) labels (now (text .entry)) ⌝ }
     ensures { λ _. ⌜ now (text .exit) ≡ textAfter (now (log .entry)) labels (now (text .entry)) ⌝ }
 {
-    if log.len() < 7170 {
+    if log.len() < layout::LOG_LENGTH {
         return answer::refused(1, 0);
     }
     if labels < 1 {
@@ -50,5 +50,5 @@ pub fn write_log(log: &[u16], labels: u16, text: &mut [u8]) -> Answer
     if labels > 16 {
         return answer::refused(5, 0);
     }
-    write_fit(&log[..7170], labels, text)
+    write_fit(&log[..layout::LOG_LENGTH], labels, text)
 }

@@ -16,7 +16,7 @@ use Rattle.text.specs.Walk.{accepted, walk}
 use Rattle.fields.specs.Fields.{sameBytes}
 use Rattle.numbers.specs.Numbers.{spellIn, digits, valueFrom, decimal}
 use Rattle.numbers.specs.Listed.{areNumbers}
-use Rattle.log_line.specs.Limits.{bufferLength}
+use Rattle.layout.specs.Layout.{logLength}
 use Rattle.log_line.specs.Header.{placeOf}
 use Rattle.log_line.specs.Step.{Step, risingBelow, linkCount}
 use Rattle.log_line.specs.Format.{logText}
@@ -84,7 +84,7 @@ more-front : take 7170 three-and-more ≡ three-steps
 unfolding three-and-more three-steps begins links
 more-front = refl
 
-three-given : take bufferLength three-steps ≡ bufferOf steps
+three-given : take logLength three-steps ≡ bufferOf steps
 unfolding three-steps
 three-given = three-whole
 

@@ -14,7 +14,7 @@ use Rattle.answer.specs.declared.Answer.{Answer}
 use Rattle.answer.specs.Answers.{acceptedWith}
 use Rattle.answer.proofs.FaultLaws.{Passed, passed-past, passed-inside, passed-all, passed-first, passed-others, answer-accepted, room-filled, numbered, accepted-passed}
 use Rattle.text.specs.Walk.{Outcome, accepted}
-use Rattle.log_line.specs.Limits.{mostLabels, bufferLength}
+use Rattle.layout.specs.Layout.{mostLabels, logLength}
 use Rattle.log_line.specs.Format.{Known, logText}
 use Rattle.log_store.specs.Buffer.{bufferOf}
 use Rattle.log_walk.specs.Filled.{filledBy}
@@ -55,29 +55,29 @@ passes-more count more b h t =
     })
 
 -- The first 7,170 numbers of a longer buffer are what the steps of its text give.
-steps-back : (count : ℕ) (log : List ℕ) → bufferLength ≤ length log → T (isLog count (take bufferLength log))
-    → bufferOf (stepsOf (take bufferLength log)) ≡ take bufferLength log
+steps-back : (count : ℕ) (log : List ℕ) → logLength ≤ length log → T (isLog count (take logLength log))
+    → bufferOf (stepsOf (take logLength log)) ≡ take logLength log
 steps-back count log h t =
-    sym (steps-give count (take bufferLength log) t)
-    ∙ take-all bufferLength (take bufferLength log) (let e = length-take-le bufferLength log h in omega arith)
+    sym (steps-give count (take logLength log) t)
+    ∙ take-all logLength (take logLength log) (let e = length-take-le logLength log h in omega arith)
 
 -- Two with the same text, under one count, have the same numbers.
-same-text : (count : ℕ) (a b : List ℕ) → count ≤ mostLabels → bufferLength ≤ length a → bufferLength ≤ length b
-    → T (isLog count (take bufferLength a)) → T (isLog count (take bufferLength b)) → logWritten a ≡ logWritten b
-    → take bufferLength a ≡ take bufferLength b
+same-text : (count : ℕ) (a b : List ℕ) → count ≤ mostLabels → logLength ≤ length a → logLength ≤ length b
+    → T (isLog count (take logLength a)) → T (isLog count (take logLength b)) → logWritten a ≡ logWritten b
+    → take logLength a ≡ take logLength b
 same-text count a b few long-a long-b t u e =
-    let z : accepted (known (stepsOf (take bufferLength a))) ≡ accepted (known (stepsOf (take bufferLength b)))
-    = sym (text-says count (take bufferLength a) few t) ∙ ap (logText count) e ∙ text-says count (take bufferLength b) few u in
-    let k : known (stepsOf (take bufferLength a)) ≡ known (stepsOf (take bufferLength b)) = cc in
+    let z : accepted (known (stepsOf (take logLength a))) ≡ accepted (known (stepsOf (take logLength b)))
+    = sym (text-says count (take logLength a) few t) ∙ ap (logText count) e ∙ text-says count (take logLength b) few u in
+    let k : known (stepsOf (take logLength a)) ≡ known (stepsOf (take logLength b)) = cc in
     sym (steps-back count a long-a t) ∙ ap (λ (m : Known). bufferOf (m .steps)) k ∙ steps-back count b long-b u
 
 -- ---- the tests that an accepted call passed
 
 pub record Accepted (log : List ℕ) (count : ℕ) (text : List ℕ) : Type 0 where
-  pub long : bufferLength ≤ length log
+  pub long : logLength ≤ length log
   pub some : 1 ≤ count
   pub few : count ≤ mostLabels
-  pub is-log : T (isLog count (take bufferLength log))
+  pub is-log : T (isLog count (take logLength log))
   pub room : length (logWritten log) ≤ length text
 
 or-neither : (a b : Bool) → (a || b) ≡ false → (a ≡ false) × (b ≡ false)
@@ -101,10 +101,10 @@ module _ (log : List ℕ) (count : ℕ) (text : List ℕ) (t : T (accepts log co
       let eight = passed-others _ _ _ seven in
       let count-fits = or-neither (ltb count 1) (ltb mostLabels count) (passed-first _ _ _ five) in
       record {
-        long = ltb-false (length log) bufferLength (passed-first _ _ _ one);
+        long = ltb-false (length log) logLength (passed-first _ _ _ one);
         some = ltb-false count 1 (count-fits .0);
         few = ltb-false mostLabels count (count-fits .1);
-        is-log = granted (isLog count (take bufferLength log)) (passed-first _ _ _ seven);
+        is-log = granted (isLog count (take logLength log)) (passed-first _ _ _ seven);
         room = ltb-false (length text) (length (logWritten log)) (passed-first _ _ _ eight);
       }
 
@@ -130,7 +130,7 @@ module _ (log : List ℕ) (count : ℕ) (text : List ℕ) (t : T (accepts log co
   written-fits =
       let p = passed-tests in
       let e = ap (λ (a : Answer). a .count) answer-counts in
-      omega (arith, text-fits (take bufferLength log) (record { count = count; fit = p .few; is-log = p .is-log }))
+      omega (arith, text-fits (take logLength log) (record { count = count; fit = p .few; is-log = p .is-log }))
 
   -- Reading the output under the label count handed in gives the log buffer back.
   pub log-read-back : ReadBack log count (output log count text)
@@ -139,41 +139,41 @@ module _ (log : List ℕ) (count : ℕ) (text : List ℕ) (t : T (accepts log co
       p : Accepted log count text
       p = passed-tests
 
-      says : logText count (logWritten log) ≡ accepted (known (stepsOf (take bufferLength log)))
-      says = text-says count (take bufferLength log) (p .few) (p .is-log)
+      says : logText count (logWritten log) ≡ accepted (known (stepsOf (take logLength log)))
+      says = text-says count (take logLength log) (p .few) (p .is-log)
 
-      gives : bufferOf (stepsOf (take bufferLength log)) ≡ take bufferLength log
+      gives : bufferOf (stepsOf (take logLength log)) ≡ take logLength log
       gives = steps-back count log (p .long) (p .is-log)
 
-      no-host-fault : (buffer : List ℕ) → bufferLength ≤ length buffer → Passed (hostFaults count buffer)
+      no-host-fault : (buffer : List ℕ) → logLength ≤ length buffer → Passed (hostFaults count buffer)
       no-host-fault buffer h =
-          passed-past (length buffer) bufferLength _ _ h
+          passed-past (length buffer) logLength _ _ h
           (passed-inside 1 count mostLabels _ _ (p .some) (p .few) passed-all)
 
       back : ReadBack log count (logWritten log)
       back = record {
-        read = known (stepsOf (take bufferLength log));
+        read = known (stepsOf (take logLength log));
         reads = says;
         gives = gives;
         answers = λ buffer h.
-            sym (answer-accepted (hostFaults count buffer) (acceptedWith (length (stepsOf (take bufferLength log)))) (textAnswer (logWritten log) (logText count (logWritten log)))
+            sym (answer-accepted (hostFaults count buffer) (acceptedWith (length (stepsOf (take logLength log)))) (textAnswer (logWritten log) (logText count (logWritten log)))
             (no-host-fault buffer h) (ap (textAnswer (logWritten log)) (sym says)));
         fills = λ buffer h.
             sym (room-filled (hostFaults count buffer) buffer (filledBy (logText count (logWritten log)) buffer)
-            (take bufferLength log ++ drop bufferLength buffer) (no-host-fault buffer h)
-            (ap (λ (l : List ℕ). l ++ drop bufferLength buffer) (sym gives) ∙ ap (λ (o : Outcome Known). filledBy o buffer) (sym says)));
+            (take logLength log ++ drop logLength buffer) (no-host-fault buffer h)
+            (ap (λ (l : List ℕ). l ++ drop logLength buffer) (sym gives) ∙ ap (λ (o : Outcome Known). filledBy o buffer) (sym says)));
       }
 
 -- Two accepted calls with the same output were handed the same 7,170 numbers, whatever the two label counts: a buffer that passes under a
 -- count passes under the larger one.
 pub logs-differ : (a b : List ℕ) (i j : ℕ) (text room : List ℕ) → T (accepts a i text) → T (accepts b j room) → output a i text ≡ output b j room
-    → take bufferLength a ≡ take bufferLength b
+    → take logLength a ≡ take logLength b
 logs-differ a b i j text room t u e =
     let p = passed-tests a i text t in
     let q = passed-tests b j room u in
     let few-i = p .few in
     let few-j = q .few in
     same-text (max i j) a b (omega arith) (p .long) (q .long)
-    (passes-more i (max i j) (take bufferLength a) (omega arith) (p .is-log))
-    (passes-more j (max i j) (take bufferLength b) (omega arith) (q .is-log))
+    (passes-more i (max i j) (take logLength a) (omega arith) (p .is-log))
+    (passes-more j (max i j) (take logLength b) (omega arith) (q .is-log))
     (sym (output-is a i text t) ∙ e ∙ output-is b j room u)

@@ -5,7 +5,7 @@ use mathlib.Core.List.{List, _++_}
 use lib.ListN.{length, take, drop}
 use Rattle.answer.specs.Answers.{acceptedWith}
 use Rattle.text.specs.Walk.{accepted}
-use Rattle.log_line.specs.Limits.{bufferLength}
+use Rattle.layout.specs.Layout.{logLength}
 use Rattle.log_line.specs.Format.{Known, logText}
 use Rattle.log_store.specs.Buffer.{bufferOf}
 use Rattle.log.specs.Answer.{logAnswer, logAfter}
@@ -14,7 +14,7 @@ use Rattle.log.specs.Answer.{logAnswer, logAfter}
 pub record ReadBack (log : List ℕ) (count : ℕ) (text : List ℕ) : Type 0 where
   pub read : Known
   pub reads : logText count text ≡ accepted read
-  pub gives : bufferOf (read .steps) ≡ take bufferLength log
+  pub gives : bufferOf (read .steps) ≡ take logLength log
   -- Hence reading it fills any buffer of 7,170 numbers or more with the same 7,170 numbers.
-  pub answers : (buffer : List ℕ) → bufferLength ≤ length buffer → logAnswer text count buffer ≡ acceptedWith (length (read .steps))
-  pub fills : (buffer : List ℕ) → bufferLength ≤ length buffer → logAfter text count buffer ≡ take bufferLength log ++ drop bufferLength buffer
+  pub answers : (buffer : List ℕ) → logLength ≤ length buffer → logAnswer text count buffer ≡ acceptedWith (length (read .steps))
+  pub fills : (buffer : List ℕ) → logLength ≤ length buffer → logAfter text count buffer ≡ take logLength log ++ drop logLength buffer

@@ -9,12 +9,13 @@ use Rattle.sets.proofs.Agree.{no-members}
 use Rattle.sets.specs.Sets.{_∈_, setOf}
 use Rattle.sets.proofs.Truth.{and-i, and-l, and-r, same}
 use Rattle.sets.proofs.Laws.{someBelow-out, someBelow-in}
-use Rattle.necklace.specs.Dag.{Dag, WellFormed, DagPath, here, edge, Route, Reading, done, silent, letter}
+use Rattle.necklace.specs.Dag.{Dag, WellFormed, here, edge, Route}
 use Rattle.necklace.specs.Automaton.{Automaton, exchange}
 use Rattle.necklace.specs.Necklace.{Some, Modality, SOME, ALL, Pattern}
 use Rattle.necklace.specs.Past.{Past, Alike}
 use Rattle.necklace.specs.Compute.{some?, all?, satisfiesBy?, satisfies?, holds?, serves?, seek, before, pivots, prefixes, row}
-use Rattle.necklace.proofs.Paths.{path-route, route-join}
+use Rattle.necklace.proofs.Paths.{route-join}
+use Rattle.necklace.proofs.Carry.{Carries, carry-route, carry-some}
 use Rattle.necklace.proofs.Modalities.{some-agrees, satisfies?-route}
 use Rattle.necklace.proofs.Prefixes.{before-first, before-holds}
 
@@ -47,27 +48,25 @@ past-trans {G} {x} {y} {z} (inr r) (inr s) = inr (route-join r s)
 narrow : {G H : Dag} {u v : ℕ} → Past G v u → Half G H v → Half G H u
 narrow p h = record { edges = λ x u q. h .edges x u (past-trans q p); labels = λ x a q. h .labels x a (past-trans q p) }
 
-module _ {G H : Dag} where
-  move-path : {u v : ℕ} {xs : List ℕ} → Half G H v → DagPath G u xs v → DagPath H u xs v
-  move-path h here = here
-  move-path h (edge {u = u} {x = x} m p) = edge (h .edges x u (inr (path-route p)) .0 m) (move-path h p)
+-- with a vertex its predecessors are in the past
+past-onward : {G : Dag} (v u x : ℕ) → Past G v x → u ∈ G .preds x → Past G v u
+past-onward {G} v u x (inl e) m = inr (subst (λ (y : ℕ). Route G u y) e (record { after = x ∷ []; path = edge m here }))
+past-onward {G} v u x (inr r) m = inr (record { after = x ∷ r .after; path = edge m (r .path) })
 
-  abbrev move-route : {u v : ℕ} → Half G H v → Route G u v → Route H u v
-  move-route h r = record { after = r .after; path = move-path h (r .path) }
+-- each vertex of the past is carried to itself
+carried : {G H : Dag} {v : ℕ} → Half G H v → Carries (λ x. x) (Past G v) G H
+carried {G} {H} {v} h = record {
+  onward = past-onward v;
+  edges = λ u x p m. h .edges x u p .0 m;
+  labels = λ x a p m. h .labels x a p .0 m;
+  bare = λ x p b. no-members (H .labels x) (λ a n. subst (λ (l : List ℕ). a ∈ l) b (h .labels x a p .1 n));
+}
 
-  move-reading : {u v : ℕ} {xs w : List ℕ} → Half G H v → DagPath G u xs v → Reading G xs w → Reading H xs w
-  move-reading h here done = done
-  move-reading h (edge {x = x} m p) (silent b r) =
-      silent (no-members (H .labels x) (λ a n. subst (λ (l : List ℕ). a ∈ l) b (h .labels x a (inr (path-route p)) .1 n))) (move-reading h p r)
-  move-reading h (edge {x = x} m p) (letter {a = a} l r) = letter (h .labels x a (inr (path-route p)) .0 l) (move-reading h p r)
+move-route : {G H : Dag} {u v : ℕ} → Half G H v → Route G u v → Route H u v
+move-route h r = carry-route (carried h) (inl refl) r
 
-  move-some : (A : Automaton) (u v : ℕ) → Half G H v → Some G A u v → Some H A u v
-  move-some A u v h s = record {
-    route = move-route h (s .route);
-    word = s .word;
-    reading = move-reading h (s .route .path) (s .reading);
-    accepts = s .accepts;
-  }
+move-some : {G H : Dag} (A : Automaton) (u v : ℕ) → Half G H v → Some G A u v → Some H A u v
+move-some A u v h s = carry-some (carried h) A u v (inl refl) s
 
 module _ {c d : ℕ} {G H : Dag} (g : WellFormed c G) (k : WellFormed d H) where
   some-same : (A : Automaton) (u v : ℕ) → Halves G H v → some? G A u v ≡ some? H A u v

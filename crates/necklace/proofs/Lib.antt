@@ -8,9 +8,14 @@ pub mod Prefixes
 pub mod RowMeaning
 pub mod Here
 pub mod Rooted
+pub mod Carry
 pub mod EqualPasts
 pub mod OnlyAdds
 pub mod Duality
 pub mod Tests
 pub mod CasesWellFormed
 pub mod CasesOfPastsMeaning
+pub mod Forward
+pub mod Agrees
+pub mod Hope
+pub mod CasesOfForward

@@ -1,39 +1,33 @@
 -- A second log that only adds to a first loses no SOME and wins no ALL.
 use Prim.Native.Nat.{ℕ, zero, suc}
 use mathlib.Core.Path.{_≡_, refl}
-use mathlib.Core.List.{List, [], _∷_}
+use mathlib.Core.Bool.{true}
+use mathlib.Core.List.{[], _∷_}
 use native.Mathlib.Omega.{arith}
 use lib.Dec.{T}
 use lib.ListN.{getD, replicate}
 use Rattle.sets.specs.Sets.{_∈_, member, setOf, someBelow}
-use Rattle.necklace.specs.Dag.{Dag, WellFormed, DagPath, here, edge, Route, Reading, done, silent, letter}
+use Rattle.necklace.specs.Dag.{Dag, WellFormed, Route}
 use Rattle.necklace.specs.Automaton.{Automaton}
 use Rattle.necklace.specs.Necklace.{Some, All, SOME, ALL, Pattern, WellFormedPattern}
 use Rattle.necklace.specs.Past.{OnlyAdds}
 use Rattle.necklace.specs.Compute.{row, prefixes, pivots, before, seek, holds?, some?, backward, pass}
 use Rattle.necklace.specs.Listed.{listedDag, listedAutomaton, bead, listedPattern}
 use Rattle.necklace.proofs.Paths.{route-inside}
+use Rattle.necklace.proofs.Carry.{Carries, carry-route, carry-reading, carry-some}
 use Rattle.necklace.proofs.RowMeaning.{first-bit}
 use Rattle.necklace.proofs.Rooted.{rooted}
 
+-- each vertex is carried to itself
+carried : {G H : Dag} → OnlyAdds G H → Carries (λ x. x) (λ x. T true) G H
+carried a = record { onward = λ u x i m. tt; edges = λ u x i m. a .edges u x m; labels = λ x l i m. a .labels x l m; bare = λ x i b. a .bare-stays x b }
+
 module _ {G H : Dag} (a : OnlyAdds G H) where
-  more-paths : {u v : ℕ} {xs : List ℕ} → DagPath G u xs v → DagPath H u xs v
-  more-paths here = here
-  more-paths (edge {u = u} {x = x} m p) = edge (a .edges u x m) (more-paths p)
-
-  more-readings : {xs w : List ℕ} → Reading G xs w → Reading H xs w
-  more-readings done = done
-  more-readings (silent {x = x} b r) = silent (a .bare-stays x b) (more-readings r)
-  more-readings (letter {x = x} {a = l} m r) = letter (a .labels x l m) (more-readings r)
-
-  abbrev more-routes : {u v : ℕ} → Route G u v → Route H u v
-  more-routes r = record { after = r .after; path = more-paths (r .path) }
-
   pub some-stays : (A : Automaton) (u v : ℕ) → Some G A u v → Some H A u v
-  some-stays A u v s = record { route = more-routes (s .route); word = s .word; reading = more-readings (s .reading); accepts = s .accepts }
+  some-stays A u v s = carry-some (carried a) A u v tt s
 
   pub all-came : (A : Automaton) (u v : ℕ) → Route G u v → All H A u v → All G A u v
-  all-came A u v r h = record { route = r; accepts = λ s w rs. h .accepts (more-routes s) w (more-readings rs) }
+  all-came A u v r h = record { route = r; accepts = λ s w rs. h .accepts (carry-route (carried a) tt s) w (carry-reading (carried a) tt (s .path) rs) }
 
 -- About bit 0 of the row, the first bead: with one bead, the rule. A SOME that held in G holds in H; an ALL that failed in G fails in H.
 module _ {c : ℕ} {G H : Dag} (g : WellFormed c G) (h : WellFormed c H) {P : Pattern} (p : WellFormedPattern c P) (a : OnlyAdds G H) (v : ℕ) where

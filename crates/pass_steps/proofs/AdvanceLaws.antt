@@ -13,8 +13,8 @@ use Rattle.necklace.specs.Dag.{Dag, WellFormed}
 use Rattle.necklace.specs.Automaton.{Automaton}
 use Rattle.pattern_buffer.specs.Meaning.{labelsIn, automatonOf}
 use Rattle.log_buffer.specs.Meaning.{logOf}
-use Rattle.forward.specs.Forward.{forward}
-use Rattle.forward.proofs.Turns.{forward-turn, arrives-at, forward-below}
+use Rattle.necklace.specs.Forward.{forward}
+use Rattle.necklace.proofs.Forward.{forward-turn, arrives-at, forward-below}
 use Rattle.lanes.specs.Lanes.{workAt, laneIn}
 use Rattle.turning.specs.Turning.{Turned}
 use Rattle.pass_steps.specs.PassSteps.{startsIn, beginningAt, Held}

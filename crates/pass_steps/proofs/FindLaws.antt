@@ -18,11 +18,11 @@ use Rattle.sets.proofs.Truth.{no-false, false-no}
 use Rattle.necklace.specs.Dag.{Dag}
 use Rattle.necklace.specs.Automaton.{Automaton}
 use Rattle.necklace.specs.Necklace.{SOME, ALL}
-use Rattle.pattern_line.specs.Limits.{ruleAt, acceptingAt}
+use Rattle.layout.specs.Layout.{ruleAt, acceptingAt}
 use Rattle.pattern_buffer.specs.Meaning.{automatonOf, patternOf}
 use Rattle.log_buffer.specs.Meaning.{stepsIn, logOf}
 use Rattle.log_links.specs.Links.{LastTo}
-use Rattle.forward.specs.Forward.{forward, among?}
+use Rattle.necklace.specs.Forward.{forward, among?}
 use Rattle.lanes.specs.Lanes.{workAt}
 use Rattle.lane_sets.specs.LaneSets.{laneWith, laneHolds}
 use Rattle.pass_steps.specs.PassSteps.{startsIn, beadReaches, laneReaches, laneAmong, Held, FoundTo, Bounded}

@@ -7,7 +7,7 @@ use mathlib.Core.List.{List}
 use lib.Dec.{T, ltb, leb}
 use lib.ListN.{getD}
 use Rattle.sets.specs.Sets.{member, setOf}
-use Rattle.forward.specs.Forward.{forward, among?, reaches?}
+use Rattle.necklace.specs.Forward.{forward, among?, reaches?}
 use Rattle.pattern_buffer.specs.Meaning.{automatonOf, patternOf}
 use Rattle.log_buffer.specs.Meaning.{stepsIn, logOf}
 use Rattle.lanes.specs.Lanes.{workAt}

@@ -2,12 +2,12 @@
 ghost use mathlib.Core.Path.{_≡_};
 ghost use Prim.Native.Nat.{_+_, _<_, _≤_};
 ghost use lib.ListN.{length};
+ghost use Rattle.layout.specs.Layout.{workLength};
 ghost use Rattle.necklace.specs.Dag.{WellFormed};
 ghost use Rattle.pattern_buffer.specs.Meaning.{labelsIn};
 ghost use Rattle.log_buffer.specs.Meaning.{stepsIn, logOf};
 ghost use Rattle.log_links.specs.Links.{Laid, LastTo};
 ghost use Rattle.entering.specs.Entering.{BeadIn};
-ghost use Rattle.lanes.specs.Lanes.{workLength};
 ghost use Rattle.pass_steps.specs.PassSteps.{beginningAt, Held, FoundTo, Bounded};
 
 // The lanes that begin at the step x.
@@ -61,7 +61,7 @@ pub fn find(
     requires { ⌜ FoundTo (now pattern) (now log) bead (now seeds) first until x (now found) ⌝ }
     ensures { λ _. ⌜ FoundTo (now (pattern .entry)) (now (log .entry)) bead (now (seeds .entry)) first until (x + 1) (now (found .exit)) ⌝ }
 {
-    found[x] = lane_sets::reaching(pattern, bead, pattern[18 + bead], work, x);
+    found[x] = lane_sets::reaching(pattern, bead, pattern[layout::FINAL_SETS + bead], work, x);
 }
 
 // How far the pass has to go after the step x: to the last step that it has a link to, if a lane is alive there. An ALL bead gives a lane up

@@ -19,9 +19,9 @@ use Rattle.pattern_buffer.specs.Meaning.{labelsIn, automatonOf, patternOf}
 use Rattle.log_buffer.specs.Meaning.{stepsIn, logOf}
 use Rattle.log_buffer.proofs.Meaning.{preds-are}
 use Rattle.log_links.specs.Links.{Laid, LastTo}
-use Rattle.forward.specs.Forward.{forward, reaches?}
-use Rattle.forward.proofs.Agrees.{reaches-from}
-use Rattle.forward.proofs.Hope.{alive-turn, among-some, reaches-alive}
+use Rattle.necklace.specs.Forward.{forward, reaches?}
+use Rattle.necklace.proofs.Agrees.{reaches-from}
+use Rattle.necklace.proofs.Hope.{alive-turn, among-some, reaches-alive}
 use Rattle.entering.specs.Entering.{BeadIn}
 use Rattle.hope.specs.Hope.{HopefulSet}
 use Rattle.pass_steps.specs.PassSteps.{startsIn, beadReaches, laneReaches, laneAmong, Held, FoundTo, Bounded}

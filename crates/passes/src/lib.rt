@@ -1,10 +1,10 @@
 // The pass of a bead in sixteen lanes: for each step the set of the lanes that reach it, SOME or ALL by the bead's rule.
 ghost use Prim.Native.Nat.{_-_, _<_, _≤_};
 ghost use lib.ListN.{length};
+ghost use Rattle.layout.specs.Layout.{workLength};
 ghost use Rattle.log_buffer.specs.Meaning.{stepsIn};
 ghost use Rattle.log_links.specs.Links.{LastTo};
 ghost use Rattle.hope.specs.Hope.{HopefulSet};
-ghost use Rattle.lanes.specs.Lanes.{workLength};
 ghost use Rattle.pass_steps.specs.PassSteps.{FoundTo};
 ghost use Rattle.passes.specs.Passes.{PassOf, Found};
 

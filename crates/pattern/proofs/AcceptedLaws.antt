@@ -10,7 +10,7 @@ use Rattle.text.proofs.WalkLaws.{walk-nil, walk-cons}
 use Rattle.text.specs.Split.{split}
 use Rattle.text.specs.Lines.{TextLine, linesOf, whole}
 use Rattle.text.specs.Walk.{Judged, refused, passed, accepted, faulty, proceed, walk, badSize, readText}
-use Rattle.pattern_line.specs.Limits.{mostLine, mostText}
+use Rattle.layout.specs.Layout.{mostLine, mostPatternText}
 use Rattle.pattern_header.specs.Header.{isHeader, labelCount}
 use Rattle.pattern_order.specs.Row.{disordered, misruled}
 use Rattle.pattern_row.specs.Fields.{rowOf, malformed}
@@ -64,7 +64,7 @@ pub record Accepted (k : Known) : Type 0 where
   pub few : k .labels ≤ 16
 
 pub lines-accepted : (text : List ℕ) (k : Known) → readText patternFormat text ≡ accepted k → Accepted k
-lines-accepted text k e = size (badSize mostText text) e
+lines-accepted text k e = size (badSize mostPatternText text) e
   where
     first : (ls : List TextLine) → walk judgeLine (record { labels = 0; rows = [] }) 1 ls ≡ accepted k → Accepted k
     first [] q =

@@ -12,7 +12,7 @@ use Rattle.answer.specs.declared.Answer.{Answer}
 use Rattle.answer.specs.Answers.{acceptedWith, refusedAt, refusedIn}
 use Rattle.text.specs.Walk.{Outcome, accepted, faulty, walk, readText}
 use Rattle.sets.specs.Sets.{setOf}
-use Rattle.pattern_line.specs.Limits.{bufferLength}
+use Rattle.layout.specs.Layout.{patternLength}
 use Rattle.pattern_order.specs.Row.{Row}
 use Rattle.pattern_store.specs.Next.{statesOf}
 use Rattle.pattern_store.specs.Format.{Known, judgeNext, patternFormat, conclude, patternText}
@@ -159,16 +159,16 @@ pub ruleset text-kit = (first-ends, first-goes, rows-end-text, rows-bounded, tex
 -- ---- the call
 
 -- A local array of zeros holds nothing.
-pub zeros-hold : replicate bufferLength 0 ≡ bufferOf (record { labels = 0; rows = [] })
+pub zeros-hold : replicate patternLength 0 ≡ bufferOf (record { labels = 0; rows = [] })
 unfolding beadCount ruleOfBead statesOf acceptingOf nextOf setOf
-zeros-hold = holds-buffer (record { labels = 0; rows = [] }) (replicate bufferLength 0) (record {
-  size = length-replicate {A = ℕ} bufferLength 0;
-  labels = getD-replicate {A = ℕ} bufferLength 0 0 0 (omega arith);
-  beads = getD-replicate {A = ℕ} bufferLength 1 0 0 (omega arith);
-  rules = λ j h. getD-replicate {A = ℕ} bufferLength (2 + j) 0 0 (omega arith);
-  states = λ j h. getD-replicate {A = ℕ} bufferLength (10 + j) 0 0 (omega arith);
-  finals = λ j h. getD-replicate {A = ℕ} bufferLength (18 + j) 0 0 (omega arith) ∙ none-final (j + 1);
-  nexts = λ i h. getD-replicate {A = ℕ} bufferLength (26 + i) 0 0 (omega arith);
+zeros-hold = holds-buffer (record { labels = 0; rows = [] }) (replicate patternLength 0) (record {
+  size = length-replicate {A = ℕ} patternLength 0;
+  labels = getD-replicate {A = ℕ} patternLength 0 0 0 (omega arith);
+  beads = getD-replicate {A = ℕ} patternLength 1 0 0 (omega arith);
+  rules = λ j h. getD-replicate {A = ℕ} patternLength (2 + j) 0 0 (omega arith);
+  states = λ j h. getD-replicate {A = ℕ} patternLength (10 + j) 0 0 (omega arith);
+  finals = λ j h. getD-replicate {A = ℕ} patternLength (18 + j) 0 0 (omega arith) ∙ none-final (j + 1);
+  nexts = λ i h. getD-replicate {A = ℕ} patternLength (26 + i) 0 0 (omega arith);
 })
   where
     none-final : (b : ℕ) → 0 ≡ setOf 16 (acceptingOf [] b)
@@ -188,16 +188,16 @@ refuse-is text n line b a e q = q ∙ ap (refusedIn n line) e
 pub ruleset refuse-kit = (refuse-is)
 
 module _ (text room : List ℕ) where
-  module _ (short : length room < bufferLength) where
+  module _ (short : length room < patternLength) where
     pub answer-short : (a : Answer) → a ≡ refusedAt 2 0 → a ≡ patternAnswer text room
-    answer-short a e = first-answer (hostFaults room) (refusedAt 2 0) a (answerOf text (patternText text)) e (first-below (length room) bufferLength (refusedAt 2 0) [] short)
+    answer-short a e = first-answer (hostFaults room) (refusedAt 2 0) a (answerOf text (patternText text)) e (first-below (length room) patternLength (refusedAt 2 0) [] short)
 
     pub after-short : room ≡ patternAfter text room
-    after-short = room-kept (hostFaults room) room (filledBy (patternText text) room) (stopped-below (length room) bufferLength (refusedAt 2 0) [] short)
+    after-short = room-kept (hostFaults room) room (filledBy (patternText text) room) (stopped-below (length room) patternLength (refusedAt 2 0) [] short)
 
-  module _ (fits : bufferLength ≤ length room) (r : TextAnswer) (b : List ℕ) (d : TextRead text r b) where
+  module _ (fits : patternLength ≤ length room) (r : TextAnswer) (b : List ℕ) (d : TextRead text r b) where
     passed : Passed (hostFaults room)
-    passed = passed-past (length room) bufferLength (refusedAt 2 0) [] fits passed-all
+    passed = passed-past (length room) patternLength (refusedAt 2 0) [] fits passed-all
 
     answer-long : patternAnswer text room ≡ answerOf text (patternText text)
     answer-long = sym (other-answer (hostFaults room) (answerOf text (patternText text)) (answerOf text (patternText text)) passed refl)
@@ -225,7 +225,7 @@ module _ (text room : List ℕ) where
       numbers-are : b ≡ bufferOf (known .0)
       numbers-are = d .numbers (known .0) (known .1)
 
-      pub numbers-size : length b ≡ bufferLength
+      pub numbers-size : length b ≡ patternLength
       numbers-size = ap length numbers-are ∙ buffer-holds (known .0) .size
 
       pub numbers-fit : length b ≤ length room

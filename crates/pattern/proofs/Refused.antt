@@ -18,7 +18,7 @@ use Rattle.text.specs.Lines.{TextLine, linesOf, whole}
 use Rattle.text.specs.Walk.{Judged, refused, passed, Outcome, accepted, faulty, walk, badSize}
 use Rattle.text.specs.FirstBad.{AllPass, done, next as next-line, FirstBad}
 use Rattle.text.proofs.FirstBadLaws.{walk-accepts, walk-refuses, Numbered, bad-number, size-faulty, size-passes}
-use Rattle.pattern_line.specs.Limits.{mostText, mostLine, bufferLength}
+use Rattle.layout.specs.Layout.{mostPatternText, mostLine, patternLength}
 use Rattle.pattern_header.specs.Header.{isHeader, labelCount}
 use Rattle.pattern_order.specs.Row.{Row, disordered, misruled}
 use Rattle.pattern_row.specs.Fields.{rowOf, malformed}
@@ -82,23 +82,23 @@ nexts-known rows (next-line {s = k} {t = u} {n = n} {l = r} e rest) = next-known
 -- ---- the answer and the room, by the host's test and by what the text says
 
 module _ (text buffer : List ℕ) where
-  module _ (h : length buffer < bufferLength) where
+  module _ (h : length buffer < patternLength) where
     short-answer : patternAnswer text buffer ≡ refusedWith text 2 0
     unfolding firstFault answerOr patternByte
-    short-answer = rw (lt-ltb (length buffer) bufferLength h) refl
+    short-answer = rw (lt-ltb (length buffer) patternLength h) refl
 
     short-after : patternAfter text buffer ≡ buffer
     unfolding firstFault keptOr
-    short-after = rw (lt-ltb (length buffer) bufferLength h) refl
+    short-after = rw (lt-ltb (length buffer) patternLength h) refl
 
-  module _ (long : bufferLength ≤ length buffer) where
+  module _ (long : patternLength ≤ length buffer) where
     long-answer : patternAnswer text buffer ≡ answerOf text (patternText text)
     unfolding firstFault answerOr
-    long-answer = rw (le-ltb (length buffer) bufferLength long) refl
+    long-answer = rw (le-ltb (length buffer) patternLength long) refl
 
     long-after : patternAfter text buffer ≡ filledBy (patternText text) buffer
     unfolding firstFault keptOr
-    long-after = rw (le-ltb (length buffer) bufferLength long) refl
+    long-after = rw (le-ltb (length buffer) patternLength long) refl
 
     said-answer : (number at : ℕ) → patternText text ≡ faulty number at → patternAnswer text buffer ≡ refusedWith text number at
     said-answer number at e = long-answer ∙ ap (answerOf text) e
@@ -112,10 +112,10 @@ module _ (text buffer : List ℕ) where
   abbrev nexts : Known → Outcome Known
   nexts k = walk (judgeNext (k .rows)) k 2 (k .rows)
 
-  size-said : T (badSize mostText text) → patternText text ≡ faulty 10 0
+  size-said : T (badSize mostPatternText text) → patternText text ≡ faulty 10 0
   size-said t = ap conclude (size-faulty patternFormat text t)
 
-  module _ (sized : T (badSize mostText text) → ⊥) where
+  module _ (sized : T (badSize mostPatternText text) → ⊥) where
     lines-said : (o : Outcome Known) → lines ≡ o → patternText text ≡ conclude o
     lines-said o e = ap conclude (size-passes patternFormat text sized ∙ e)
 
@@ -169,12 +169,12 @@ module _ (text buffer : List ℕ) where
 
   -- A call is refused by one of the list's entries, or it is accepted.
   pub pattern-promise : Promise text buffer (patternAnswer text buffer) (patternAfter text buffer)
-  pattern-promise = host (ltb (length buffer) bufferLength) refl (badSize mostText text) refl
+  pattern-promise = host (ltb (length buffer) patternLength) refl (badSize mostPatternText text) refl
     where
       refuse : (number at : ℕ) → Refused text buffer number at → Promised
       refuse number at r = refused-so number at r (answers number at r) (refused-keeps number at r)
 
-      accept : bufferLength ≤ length buffer → (k : Known) → LinesPass text k → patternText text ≡ accepted k → Promised
+      accept : patternLength ≤ length buffer → (k : Known) → LinesPass text k → patternText text ≡ accepted k → Promised
       accept long k p e =
           let counts = long-answer long ∙ ap (answerOf text) e in
           accepted-so (none (ap (λ (a : Answer). a .number) counts))
@@ -194,10 +194,10 @@ module _ (text buffer : List ℕ) where
       walks r (faulty number at) w = refuse number at (line r (walk-line number at .0 w))
       walks r (accepted k) w = rows r k w (eqb (length (k .rows)) 0) refl
 
-      host : (a : Bool) → ltb (length buffer) bufferLength ≡ a → (b : Bool) → badSize mostText text ≡ b → Promised
-      host true x b y = refuse 2 0 (short (ltb-true (length buffer) bufferLength x))
-      host false x true y = refuse 10 0 (size (ltb-false (length buffer) bufferLength x) (true-yes (badSize mostText text) y))
-      host false x false y = walks (record { long = ltb-false (length buffer) bufferLength x; sized = false-no (badSize mostText text) y }) lines refl
+      host : (a : Bool) → ltb (length buffer) patternLength ≡ a → (b : Bool) → badSize mostPatternText text ≡ b → Promised
+      host true x b y = refuse 2 0 (short (ltb-true (length buffer) patternLength x))
+      host false x true y = refuse 10 0 (size (ltb-false (length buffer) patternLength x) (true-yes (badSize mostPatternText text) y))
+      host false x false y = walks (record { long = ltb-false (length buffer) patternLength x; sized = false-no (badSize mostPatternText text) y }) lines refl
 
   refused-by : (number at : ℕ) → patternAnswer text buffer ≡ refusedWith text number at → (number ≡ 0 → ⊥) → Refused text buffer number at
   refused-by number at e n = go pattern-promise

@@ -11,7 +11,7 @@ use lib.ListN.{length}
 use Rattle.answer.specs.Answers.{refusedAt, withoutByte}
 use Rattle.answer.specs.Faults.{firstFault, answerOr, keptOr}
 use Rattle.text.specs.Walk.{Outcome, accepted, faulty}
-use Rattle.pattern_line.specs.Limits.{bufferLength}
+use Rattle.layout.specs.Layout.{patternLength}
 use Rattle.pattern_store.specs.Format.{Known, patternText}
 use Rattle.pattern_byte.proofs.PlaceLaws.{byte-fits}
 use Rattle.pattern.specs.Answer.{answerOf, answerBefore, filledBy, hostFaults, patternAnswer, patternAfter}
@@ -19,7 +19,7 @@ use Rattle.pattern.specs.Answer.{answerOf, answerBefore, filledBy, hostF
 module _ (text buffer : List ℕ) where
   pub numbers-stay : withoutByte (patternAnswer text buffer) ≡ answerOr (firstFault (hostFaults buffer)) (answerBefore (patternText text))
   unfolding firstFault answerOr
-  numbers-stay = go (ltb (length buffer) bufferLength) (patternText text)
+  numbers-stay = go (ltb (length buffer) patternLength) (patternText text)
     where
       go : (b : Bool) (o : Outcome Known)
           → withoutByte (answerOr (cond b (some (refusedAt 2 0)) none) (answerOf text o)) ≡ answerOr (cond b (some (refusedAt 2 0)) none) (answerBefore o)
@@ -32,7 +32,7 @@ module _ (text buffer : List ℕ) where
 
   pub byte-small : patternAnswer text buffer .byte ≤ 241
   unfolding firstFault answerOr
-  byte-small = go (ltb (length buffer) bufferLength) (patternText text)
+  byte-small = go (ltb (length buffer) patternLength) (patternText text)
     where
       go : (b : Bool) (o : Outcome Known) → answerOr (cond b (some (refusedAt 2 0)) none) (answerOf text o) .byte ≤ 241
       go true o = omega arith

@@ -7,7 +7,7 @@ use Rattle.answer.specs.declared.Answer.{Answer}
 use Rattle.answer.specs.Answers.{acceptedWith, refusedAt, refusedIn}
 use Rattle.answer.specs.Faults.{Fault, when, firstFault, answerOr, keptOr}
 use Rattle.text.specs.Walk.{Outcome, accepted, faulty}
-use Rattle.pattern_line.specs.Limits.{bufferLength}
+use Rattle.layout.specs.Layout.{patternLength}
 use Rattle.pattern_store.specs.Format.{Known, patternText}
 use Rattle.pattern_store.specs.Buffer.{beadCount, bufferOf}
 use Rattle.pattern_byte.specs.Byte.{patternByte}
@@ -28,12 +28,12 @@ answerBefore (faulty number line) = refusedAt number line
 
 -- The buffer at exit: the numbers in front and the rest as it was, or all as it was.
 abbrev pub filledBy : Outcome Known → List ℕ → List ℕ
-filledBy (accepted k) buffer = bufferOf k ++ drop bufferLength buffer
+filledBy (accepted k) buffer = bufferOf k ++ drop patternLength buffer
 filledBy (faulty number line) buffer = buffer
 
 -- The host's refusal, before all else: 2, the buffer is shorter than 2,074.
 abbrev pub hostFaults : List ℕ → List Fault
-hostFaults buffer = when (ltb (length buffer) bufferLength) (refusedAt 2 0) ∷ []
+hostFaults buffer = when (ltb (length buffer) patternLength) (refusedAt 2 0) ∷ []
 
 abbrev pub patternAnswer : List ℕ → List ℕ → Answer
 patternAnswer text buffer = answerOr (firstFault (hostFaults buffer)) (answerOf text (patternText text))

@@ -7,7 +7,7 @@ use mathlib.Core.List.{List, _++_}
 use lib.ListN.{drop}
 use Rattle.answer.specs.declared.Answer.{Answer}
 use Rattle.answer.specs.Answers.{acceptedWith}
-use Rattle.pattern_line.specs.Limits.{bufferLength}
+use Rattle.layout.specs.Layout.{patternLength}
 use Rattle.pattern_store.specs.Format.{Known}
 use Rattle.pattern_store.specs.Buffer.{beadCount, bufferOf}
 use Rattle.pattern.specs.Answer.{refusedWith}
@@ -18,7 +18,7 @@ pub record Read (text buffer : List ℕ) (answer : Answer) (buffer′ : List ℕ
   pub known : Known
   pub lines : LinesPass text known
   pub counts : answer ≡ acceptedWith (beadCount (known .rows))
-  pub fills : buffer′ ≡ bufferOf known ++ drop bufferLength buffer
+  pub fills : buffer′ ≡ bufferOf known ++ drop patternLength buffer
 
 pub data Promise (text buffer : List ℕ) (answer : Answer) (buffer′ : List ℕ) : Type 0 where
   refused : (number line : ℕ) → Refused text buffer number line → answer ≡ refusedWith text number line → buffer′ ≡ buffer → Promise text buffer answer buffer′

@@ -8,13 +8,13 @@ use lib.ListN.{length}
 use Rattle.text.specs.Lines.{linesOf}
 use Rattle.text.specs.Walk.{badSize}
 use Rattle.text.specs.FirstBad.{AllPass, FirstBad}
-use Rattle.pattern_line.specs.Limits.{mostText, bufferLength}
+use Rattle.layout.specs.Layout.{mostPatternText, patternLength}
 use Rattle.pattern_store.specs.Format.{Known, judgeLine, judgeNext, patternFormat}
 
 -- The room is as long as asked, and the text has a right size.
 pub record Readable (text buffer : List ℕ) : Type 0 where
-  pub long : bufferLength ≤ length buffer
-  pub sized : T (badSize mostText text) → ⊥
+  pub long : patternLength ≤ length buffer
+  pub sized : T (badSize mostPatternText text) → ⊥
 
 -- All lines pass 11 to 14, and this is known after the last.
 abbrev pub LinesPass : List ℕ → Known → Type 0
@@ -23,9 +23,9 @@ LinesPass text k = AllPass judgeLine (patternFormat .start) 1 (linesOf text) k
 -- The refusal's number and line.
 pub data Refused (text buffer : List ℕ) : ℕ → ℕ → Type 0 where
   -- the pattern room is too short
-  short : length buffer < bufferLength → Refused text buffer 2 0
+  short : length buffer < patternLength → Refused text buffer 2 0
   -- the text is empty or too long
-  size : bufferLength ≤ length buffer → T (badSize mostText text) → Refused text buffer 10 0
+  size : patternLength ≤ length buffer → T (badSize mostPatternText text) → Refused text buffer 10 0
   -- the first bad line, by 11 to 14
   line : {number line : ℕ} → Readable text buffer → FirstBad judgeLine (patternFormat .start) 1 (linesOf text) number line → Refused text buffer number line
   -- nothing after the header

@@ -21,10 +21,10 @@ pub fn read_pattern(text: &[u8], pattern: &mut [u16]) -> Answer
     ensures { λ r. ⌜ r ≡ patternAnswer (now (text .entry)) (now (pattern .entry)) ⌝ }
     ensures { λ _. ⌜ now (pattern .exit) ≡ patternAfter (now (text .entry)) (now (pattern .entry)) ⌝ }
 {
-    if pattern.len() < 2074 {
+    if pattern.len() < layout::PATTERN_LENGTH {
         return answer::refused(2, 0);
     }
-    let mut buffer = [0u16; 2074];
+    let mut buffer = [0u16; layout::PATTERN_LENGTH];
     match read_text(text, &mut buffer) {
         TextAnswer::Refused(f, line) => refuse(text, number_of(f), line),
         TextAnswer::Beads(count) => {

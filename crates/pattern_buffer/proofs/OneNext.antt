@@ -12,7 +12,7 @@ use Rattle.lists.specs.Places.{at}
 use Rattle.sets.specs.Sets.{members, single}
 use Rattle.sets.proofs.Laws.{single-count, single-members, members-out, below-within}
 use Rattle.necklace.specs.Automaton.{OneNext}
-use Rattle.pattern_line.specs.Limits.{mostStates, statesAt, nextAt}
+use Rattle.layout.specs.Layout.{mostStates, statesAt, nextAt}
 use Rattle.pattern_buffer.specs.Meaning.{labelsIn, beadsIn, automatonOf}
 use Rattle.pattern_buffer.specs.Valid.{isPattern}
 use Rattle.pattern_buffer.proofs.Places.{passes-out, bead-there, next-there}

@@ -11,7 +11,7 @@ use lib.ListN.{length}
 use Rattle.lists.specs.Places.{at}
 use Rattle.sets.specs.Sets.{within, single}
 use Rattle.sets.proofs.Truth.{or-l, or-r, or-cases, and-i, and-l, and-r, decide}
-use Rattle.pattern_line.specs.Limits.{mostLabels, mostBeads, mostStates, ruleAt, statesAt, acceptingAt, nextAt, bufferLength}
+use Rattle.layout.specs.Layout.{mostLabels, mostBeads, mostStates, ruleAt, statesAt, acceptingAt, nextAt, patternLength}
 use Rattle.pattern_buffer.specs.Meaning.{labelsIn, beadsIn}
 use Rattle.pattern_buffer.specs.Valid.{between, turnOk, beadOk, beadsOk, nextOk, nextsOk, isPattern}
 use Rattle.sets.proofs.Below.{all-out, all-in}
@@ -196,7 +196,7 @@ module _ (b : List ℕ) (j q a : ℕ) where
 -- ---- the whole buffer
 
 pub record Passes (b : List ℕ) : Type 0 where
-  pub long : bufferLength ≤ length b
+  pub long : patternLength ≤ length b
   pub some-label : 1 ≤ labelsIn b
   pub labels-most : labelsIn b ≤ mostLabels
   pub some-bead : 1 ≤ beadsIn b
@@ -220,13 +220,13 @@ module _ (b : List ℕ) where
   pub passes-out : T (isPattern b) → Passes b
   unfolding isPattern beadsOk nextsOk
   passes-out t =
-      let t2 = and-r (leb bufferLength (length b)) (labels-test && (beads-test && tables-test)) t in
+      let t2 = and-r (leb patternLength (length b)) (labels-test && (beads-test && tables-test)) t in
       let t3 = and-r labels-test (beads-test && tables-test) t2 in
       let t4 = and-r beads-test tables-test t3 in
       let l = between-out 1 mostLabels (labelsIn b) (and-l labels-test (beads-test && tables-test) t2) in
       let n = between-out 1 mostBeads (beadsIn b) (and-l beads-test tables-test t3) in
       record {
-        long = leb→le bufferLength (length b) (and-l (leb bufferLength (length b)) (labels-test && (beads-test && tables-test)) t);
+        long = leb→le patternLength (length b) (and-l (leb patternLength (length b)) (labels-test && (beads-test && tables-test)) t);
         some-label = l .0;
         labels-most = l .1;
         some-bead = n .0;
@@ -246,7 +246,7 @@ module _ (b : List ℕ) where
   pub passes-in : Passes b → T (isPattern b)
   unfolding isPattern beadsOk nextsOk
   passes-in p =
-      and-i (leb bufferLength (length b)) (labels-test && (beads-test && tables-test)) (le→leb bufferLength (length b) (p .long))
+      and-i (leb patternLength (length b)) (labels-test && (beads-test && tables-test)) (le→leb patternLength (length b) (p .long))
       (and-i labels-test (beads-test && tables-test) (between-in 1 mostLabels (labelsIn b) (p .some-label) (p .labels-most))
       (and-i beads-test tables-test (between-in 1 mostBeads (beadsIn b) (p .some-bead) (p .beads-most))
       (and-i (beadsOk b) (nextsOk b) (all-in 8 (beadOk b) (p .beads))

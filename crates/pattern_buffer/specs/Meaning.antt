@@ -7,7 +7,7 @@ use Rattle.lists.specs.Places.{at}
 use Rattle.sets.specs.Sets.{member, members}
 use Rattle.necklace.specs.Automaton.{Automaton}
 use Rattle.necklace.specs.Necklace.{Modality, SOME, ALL, Primitive, Pattern}
-use Rattle.pattern_line.specs.Limits.{mostStates, ruleAt, statesAt, acceptingAt, nextAt}
+use Rattle.layout.specs.Layout.{mostStates, ruleAt, statesAt, acceptingAt, nextAt}
 
 abbrev pub labelsIn : List ℕ → ℕ
 labelsIn b = at b 0

@@ -6,7 +6,7 @@ use lib.Dec.{eqb, leb, ltb}
 use lib.ListN.{length}
 use Rattle.lists.specs.Places.{at}
 use Rattle.sets.specs.Sets.{allBelow, within, single}
-use Rattle.pattern_line.specs.Limits.{mostLabels, mostBeads, mostStates, ruleAt, statesAt, acceptingAt, nextAt, bufferLength}
+use Rattle.layout.specs.Layout.{mostLabels, mostBeads, mostStates, ruleAt, statesAt, acceptingAt, nextAt, patternLength}
 use Rattle.pattern_buffer.specs.Meaning.{labelsIn, beadsIn}
 
 abbrev pub between : ℕ → ℕ → ℕ → Bool
@@ -42,5 +42,5 @@ nextsOk b = allBelow 2048 (λ i. nextOk b (i / 256) (i / 16 % 16) (i % 16))
 -- The whole buffer: its length, its two counts, its beads and their next sets.
 unfoldable pub isPattern : List ℕ → Bool
 isPattern b =
-    leb bufferLength (length b)
+    leb patternLength (length b)
     && (between 1 mostLabels (labelsIn b) && (between 1 mostBeads (beadsIn b) && (beadsOk b && nextsOk b)))

@@ -4,12 +4,12 @@ ghost use mathlib.Core.Bool.{true};
 ghost use Prim.Native.Nat.{_<_, _≤_};
 ghost use lib.ListN.{length};
 ghost use Rattle.lists.specs.Places.{at};
-ghost use Rattle.pattern_line.specs.Limits.{bufferLength, mostBeads, mostStates, mostLabels, statesAt};
+ghost use Rattle.layout.specs.Layout.{patternLength, mostBeads, mostStates, mostLabels, statesAt};
 ghost use Rattle.pattern_buffer.specs.Valid.{beadsOk, nextOk, nextsOk};
 
 // The next set of the state q and the label a of the bead at place j: right if both are there, 0 if not.
 fn next_ok(buffer: &[u16], j: u16, q: u16, a: u16) -> bool
-    requires { ⌜ bufferLength ≤ length (now buffer) ⌝ }
+    requires { ⌜ patternLength ≤ length (now buffer) ⌝ }
     requires { ⌜ j < mostBeads ⌝ }
     requires { ⌜ q < mostStates ⌝ }
     requires { ⌜ a < mostLabels ⌝ }
@@ -37,7 +37,7 @@ fn next_ok(buffer: &[u16], j: u16, q: u16, a: u16) -> bool
 
 // All 2,048 next sets, of beads that are right.
 pub fn nexts_ok(buffer: &[u16]) -> bool
-    requires { ⌜ bufferLength ≤ length (now buffer) ⌝ }
+    requires { ⌜ patternLength ≤ length (now buffer) ⌝ }
     requires { ⌜ beadsOk (now buffer) ≡ true ⌝ }
     ensures { λ r. ⌜ r ≡ nextsOk (now (buffer .entry)) ⌝ }
 {

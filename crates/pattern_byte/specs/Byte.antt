@@ -7,7 +7,7 @@ use lib.Dec.{eqb, ltb}
 use lib.ListN.{drop}
 use Rattle.text.specs.Split.{split}
 use Rattle.line_places.specs.Place.{linesBytes, lineAt, rankedAt}
-use Rattle.pattern_line.specs.Limits.{mostLine}
+use Rattle.layout.specs.Layout.{mostLine}
 use Rattle.pattern_header.specs.Header.{labelCount}
 use Rattle.pattern_order.specs.Row.{Row}
 use Rattle.pattern_row.specs.Fields.{rowOf}

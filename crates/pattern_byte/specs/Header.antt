@@ -4,7 +4,7 @@ use mathlib.Core.List.{List, [], _∷_}
 use Rattle.text.specs.Split.{split}
 use Rattle.text.specs.Lines.{TextLine, linesOf}
 use Rattle.line_places.specs.Place.{rankedAt}
-use Rattle.pattern_line.specs.Limits.{mostLine}
+use Rattle.layout.specs.Layout.{mostLine}
 use Rattle.pattern_places.specs.Place.{headerAt}
 
 abbrev pub oneLineAt : List TextLine → ℕ

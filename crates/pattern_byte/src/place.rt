@@ -56,7 +56,7 @@ pub fn ranked_place(text: &[u8], number: u16, line: usize) -> usize
     requires { ⌜ 10 < number ⌝ }
     ensures { λ r. ⌜ r ≡ rankedAt 240 (lineAt (now (text .entry)) line) (placeIn (now (text .entry)) number line (lineAt (now (text .entry)) line .bytes)) ⌝ }
 {
-    match inspect_line(text, line, 240) {
+    match inspect_line(text, line, layout::MOST_LINE) {
         LineFound::Broken(place) => place,
         LineFound::Whole(start, end) => place_in(text, number, line, &text[start..end]),
     }

@@ -17,7 +17,7 @@ use Rattle.text.proofs.FirstBadLaws.{walk-accepts, walk-refuses}
 use Rattle.line_places.specs.Place.{placeAt, placeWhere, unprintablePlace, brokenAt, rankedAt, lineAt}
 use Rattle.line_places.proofs.LineLaws.{place-printable}
 use Rattle.line_places.proofs.FaultLaws.{field-at-fault, no-field, byte-at-fault as first-byte}
-use Rattle.pattern_line.specs.Limits.{mostText, mostLine}
+use Rattle.layout.specs.Layout.{mostPatternText, mostLine}
 use Rattle.pattern_header.specs.Header.{isHeader}
 use Rattle.pattern_order.specs.Row.{disordered, misruled}
 use Rattle.pattern_row.specs.Fields.{rowOf, malformed}
@@ -198,7 +198,7 @@ module _ (text : List ℕ) (number line : ℕ) where
   -- A byte that is not 0 is the place of what is at fault, and no fault ranks higher; where it is 0, there is no such place.
   pub byte-at-fault : patternText text ≡ faulty number line → Placed text number line (patternByte text number line)
   unfolding patternByte
-  byte-at-fault e = sized (badSize mostText text) refl e
+  byte-at-fault e = sized (badSize mostPatternText text) refl e
     where
       next-sets : (k : Known) → lines ≡ accepted k → (o : Outcome Known) → nexts k ≡ o → o ≡ faulty number line → Answered
       next-sets k w o x q =
@@ -219,9 +219,9 @@ module _ (text : List ℕ) (number line : ℕ) where
           said a b q (placed-line text a b (first-bad text (patternFormat .start) a b refl (walk-refuses judgeLine (patternFormat .start) 1 a b (linesOf text) .0 w)))
       walked h (accepted k) w q = rows h k w (eqb (length (k .rows)) 0) refl q
 
-      some-bytes : badSize mostText text ≡ false → 0 < length text
-      some-bytes x = let d = eqb-false (length text) 0 (or-left (eqb (length text) 0) (ltb mostText (length text)) x) in omega arith
+      some-bytes : badSize mostPatternText text ≡ false → 0 < length text
+      some-bytes x = let d = eqb-false (length text) 0 (or-left (eqb (length text) 0) (ltb mostPatternText (length text)) x) in omega arith
 
-      sized : (t : Bool) → badSize mostText text ≡ t → conclude (cond t (faulty 10 0) lines) ≡ faulty number line → Answered
-      sized true x q = said 10 0 q (size (true-yes (badSize mostText text) x))
+      sized : (t : Bool) → badSize mostPatternText text ≡ t → conclude (cond t (faulty 10 0) lines) ≡ faulty number line → Answered
+      sized true x q = said 10 0 q (size (true-yes (badSize mostPatternText text) x))
       sized false x q = walked (some-bytes x) lines refl q

@@ -15,7 +15,7 @@ use Rattle.text.specs.Walk.{Judged, refused, passed}
 use Rattle.text.specs.FirstBad.{AllPass, done, next, FirstBad, here, later}
 use Rattle.text.proofs.SplitLaws.{split-some, joined-split}
 use Rattle.line_places.specs.Place.{linesBytes, lineAt}
-use Rattle.pattern_line.specs.Limits.{mostLine}
+use Rattle.layout.specs.Layout.{mostLine}
 use Rattle.pattern_header.specs.Header.{isHeader, labelCount}
 use Rattle.pattern_order.specs.Row.{Row, disordered, misruled}
 use Rattle.pattern_row.specs.Fields.{rowOf, malformed}

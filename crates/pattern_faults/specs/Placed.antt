@@ -12,7 +12,7 @@ use Rattle.text.specs.Walk.{badSize}
 use Rattle.fields.specs.Fields.{partStart}
 use Rattle.line_places.specs.Place.{lineAt}
 use Rattle.line_places.specs.Fault.{FieldAtFault, ByteAtFault}
-use Rattle.pattern_line.specs.Limits.{mostText, mostLine}
+use Rattle.layout.specs.Layout.{mostPatternText, mostLine}
 use Rattle.pattern_header.specs.Header.{isHeader}
 use Rattle.pattern_order.specs.Row.{disordered, misruled}
 use Rattle.pattern_row.specs.Fields.{rowOf, malformed}
@@ -37,7 +37,7 @@ pub record FieldAt (text : List ℕ) (n i place : ℕ) : Type 0 where
 
 pub data Placed (text : List ℕ) : ℕ → ℕ → ℕ → Type 0 where
   -- 10: the text is empty or too long
-  size : T (badSize mostText text) → Placed text 10 0 0
+  size : T (badSize mostPatternText text) → Placed text 10 0 0
   -- 11: the line is over 240 bytes
   long : {n : ℕ} → mostLine < length (lineAt text n .bytes) → Placed text 11 n 0
   -- its newline is missing

@@ -4,7 +4,7 @@ use mathlib.Core.Bool.{Bool, true, false, not, _&&_, _||_}
 use mathlib.Core.List.{List, [], _∷_}
 use lib.Dec.{leb}
 use lib.ListN.{length, take, drop}
-use Rattle.pattern_line.specs.Limits.{mostName, mostLabels}
+use Rattle.layout.specs.Layout.{mostName, mostLabels}
 use Rattle.fields.specs.Fields.{sameBytes}
 
 -- `bead`, `rule`, `state`, `final`

@@ -53,7 +53,7 @@ fn is_name(field: &[u8]) -> bool
     if field.len() < 1 {
         return false;
     }
-    if field.len() > 12 {
+    if field.len() > layout::MOST_NAME {
         return false;
     }
     name_bytes(field)

@@ -7,7 +7,7 @@ use lib.Dec.{eqb, ltb}
 use lib.ListN.{length, getD, take, drop}
 use Rattle.sets.specs.Sets.{consIf}
 use Rattle.text.specs.Walk.{Judged, refused, passed, Outcome, accepted, faulty, walk}
-use Rattle.pattern_line.specs.Limits.{ruleAt, statesAt, bufferLength}
+use Rattle.layout.specs.Layout.{ruleAt, statesAt, patternLength}
 use Rattle.pattern_store.specs.Next.{allWithin, allSingle}
 use Rattle.pattern_line.specs.Answers.{refusalNumber}
 use Rattle.pattern_late.specs.declared.SlotAnswer.{SlotAnswer}
@@ -17,7 +17,7 @@ use Rattle.pattern_late.specs.declared.LateAnswer.the-variants.{Fine as 
 
 -- A buffer of the right length with at most 16 labels, and at most 16 states a bead.
 pub record Bounded (b : List ℕ) : Type 0 where
-  pub size : bufferLength ≤ length b
+  pub size : patternLength ≤ length b
   pub labels : getD b 0 0 ≤ 16
   pub states : (j : ℕ) → j < 8 → getD b (statesAt j) 0 ≤ 16
 

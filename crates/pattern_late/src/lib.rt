@@ -53,13 +53,13 @@ fn judge_slot(buffer: &[u16], slot: usize) -> SlotAnswer
     ensures { λ r. ⌜ slotSaid r ≡ judgeSlot (now (buffer .entry)) tt 0 slot ⌝ }
 {
     let j = slot / 16;
-    let from = 26 + 16 * slot;
+    let from = layout::NEXT_SETS + layout::SETS_A_STATE * slot;
     let to = from + lists::wide(buffer[0]);
     let sets = &buffer[from..to];
-    if !all_within(sets, buffer[10 + j]) {
+    if !all_within(sets, buffer[layout::STATE_COUNTS + j]) {
         return SlotAnswer::Refused(Refusal::NextState);
     }
-    if buffer[2 + j] != 2 {
+    if buffer[layout::RULES + j] != 2 {
         return SlotAnswer::Fine;
     }
     if all_single(sets) {
@@ -78,7 +78,7 @@ pub fn find_late(buffer: &[u16]) -> LateAnswer
     while i < 128 {
         let slot = i;
         i += 1;
-        if slot % 16 < lists::wide(buffer[10 + slot / 16]) {
+        if slot % 16 < lists::wide(buffer[layout::STATE_COUNTS + slot / 16]) {
             match judge_slot(buffer, slot) {
                 SlotAnswer::Refused(f) => {
                     return LateAnswer::Refused(f, line);

@@ -10,7 +10,7 @@ use lib.ListN.{length, getD}
 use Rattle.text.specs.Split.{lineFrom}
 use Rattle.writing.specs.Put.{Put}
 use Rattle.writing.proofs.PutLaws.{nothing-put, then}
-use Rattle.pattern_line.specs.Limits.{statesAt}
+use Rattle.layout.specs.Layout.{statesAt}
 use Rattle.pattern_order.specs.Row.{Row}
 use Rattle.lists.specs.Places.{at}
 use Rattle.pattern_buffer.specs.Meaning.{beadsIn}

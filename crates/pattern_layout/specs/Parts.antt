@@ -4,7 +4,7 @@ use mathlib.Core.List.{List, [], _∷_, _++_}
 use lib.Dec.{T}
 use Rattle.numbers.specs.Numbers.{spell}
 use Rattle.writing.specs.Put.{listed}
-use Rattle.pattern_line.specs.Limits.{statesAt}
+use Rattle.layout.specs.Layout.{statesAt}
 use Rattle.lists.specs.Places.{at}
 use Rattle.pattern_buffer.specs.Meaning.{beadsIn}
 use Rattle.pattern_buffer.specs.Valid.{isPattern}

@@ -9,7 +9,7 @@ ghost use lib.ListN.{length, getD};
 ghost use Rattle.sets.specs.Sets.{member};
 ghost use Rattle.text.specs.Split.{lineFrom};
 ghost use Rattle.writing.specs.Put.{Put};
-ghost use Rattle.pattern_line.specs.Limits.{statesAt};
+ghost use Rattle.layout.specs.Layout.{statesAt};
 ghost use Rattle.pattern_buffer.specs.Meaning.{beadsIn};
 ghost use Rattle.pattern_buffer.specs.Valid.{isPattern};
 ghost use Rattle.pattern_texts.specs.Spelled.{rowIn, rowsOfBead, rowsOf, ruleWord, fieldsOf, rowLines};
@@ -72,11 +72,13 @@ fn put_row(out: &mut [u8], at: usize, pattern: &[u16], j: u16, q: u16) -> usize
     ensures { λ r. ⌜ Put (lineFrom (fieldsOf (rowIn (now (pattern .entry)) j q))) at (now (out .entry)) r (now (out .exit)) ⌝ }
     ensures { λ r. ⌜ r ≤ at + 119 ⌝ }
 {
-    let accepting = final_of(pattern[18 + j as usize], q);
-    let from = 26 + 256 * j as usize + 16 * q as usize;
+    let accepting = final_of(pattern[layout::FINAL_SETS + j as usize], q);
+    let from = layout::NEXT_SETS
+        + layout::SETS_A_BEAD * j as usize
+        + layout::SETS_A_STATE * q as usize;
     let labels = pattern[0];
     let to = from + labels as usize;
-    let next = put_start(out, at, j + 1, pattern[2 + j as usize], q);
+    let next = put_start(out, at, j + 1, pattern[layout::RULES + j as usize], q);
     put_end(out, next, accepting, &pattern[from..to])
 }
 
@@ -87,7 +89,7 @@ fn put_bead(out: &mut [u8], at: usize, pattern: &[u16], j: u16) -> usize
     ensures { λ r. ⌜ Put (rowLines (rowsOfBead (now (pattern .entry)) j (getD (now (pattern .entry)) (statesAt j) 0))) at (now (out .entry)) r (now (out .exit)) ⌝ }
     ensures { λ r. ⌜ r ≤ at + 1904 ⌝ }
 {
-    let states = pattern[10 + j as usize];
+    let states = pattern[layout::STATE_COUNTS + j as usize];
     let mut next = at;
     for q in 0..states {
         next = put_row(out, next, pattern, j, q);

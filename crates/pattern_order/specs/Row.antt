@@ -3,7 +3,7 @@ use Prim.Native.Nat.{ℕ, _+_}
 use mathlib.Core.Bool.{Bool, false, not, cond, _&&_, _||_}
 use mathlib.Core.List.{List, [], _∷_}
 use lib.Dec.{eqb, ltb}
-use Rattle.pattern_line.specs.Limits.{mostBeads, mostStates}
+use Rattle.layout.specs.Layout.{mostBeads, mostStates}
 
 -- What a line says of a state of a bead: bead, rule (1 SOME, 2 ALL), state, final, and the next set of each label.
 pub record Row : Type 0 where

@@ -8,7 +8,7 @@ use Rattle.sets.specs.Sets.{within, single}
 use Rattle.fields.specs.Fields.{sameBytes}
 use Rattle.numbers.specs.Numbers.{isNumber, valueOf}
 use Rattle.line_places.specs.Place.{placeAt, placeWhere}
-use Rattle.pattern_line.specs.Limits.{mostLabels, mostBeads, mostStates}
+use Rattle.layout.specs.Layout.{mostLabels, mostBeads, mostStates}
 use Rattle.pattern_header.specs.Header.{columns, isName, among}
 use Rattle.pattern_order.specs.Row.{Row}
 use Rattle.pattern_row.specs.Fields.{rowOf}

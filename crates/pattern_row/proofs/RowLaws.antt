@@ -16,7 +16,7 @@ use Rattle.fields.specs.Fields.{sameBytes}
 use Rattle.numbers.proofs.ValueLaws.{not-number, is-number, value-none, value-some}
 use Rattle.numbers.specs.declared.Number.{Number}
 use Rattle.numbers.specs.declared.Number.the-variants.{Value, Malformed}
-use Rattle.pattern_line.specs.Limits.{mostLabels}
+use Rattle.layout.specs.Layout.{mostLabels}
 use Rattle.pattern_line.specs.Line.{fieldsOf, fieldAt}
 use Rattle.pattern_row.specs.Fields.{ruleOf, rowOf}
 use Rattle.pattern_line.specs.Answers.{refusal}

@@ -2,7 +2,7 @@
 ghost use mathlib.Core.Path.{_≡_};
 ghost use Prim.Native.Nat.{_≤_};
 ghost use lib.ListN.{length, take, drop};
-ghost use Rattle.pattern_line.specs.Limits.{mostLabels};
+ghost use Rattle.layout.specs.Layout.{mostLabels};
 ghost use Rattle.fields.specs.Fields.{Marked};
 ghost use Rattle.pattern_line.specs.Line.{fieldsOf, fieldAt};
 ghost use Rattle.pattern_order.specs.Answers.{lineSaid, rowsAt};
@@ -42,7 +42,7 @@ fn read_next(line: &[u8], marks: &[usize], next: &mut [u16]) -> bool
     let count = fields::marked_count(line, 32, marks);
     let mut numbers = true;
     let mut a = 0;
-    while a < 16 {
+    while a < layout::MOST_LABELS {
         let index = 4 + a;
         match number_at(line, marks, index) {
             Number::Value(v) => {

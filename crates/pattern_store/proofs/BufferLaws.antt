@@ -11,7 +11,7 @@ use lib.ListN.{length, getD, take, drop, set, length-append, length-set, length-
 use lib.Seq.{getD-append-add, getD-set-same, getD-set-other, getD-take, getD-drop, length-take-le, ext-getD}
 use Rattle.sets.specs.Sets.{member, setOf, singleton, union}
 use Rattle.sets.proofs.Laws.{ext, setOf-below, member-setOf, member-singleton, union-below, member-union}
-use Rattle.pattern_line.specs.Limits.{bufferLength}
+use Rattle.layout.specs.Layout.{patternLength}
 use Rattle.pattern_order.specs.Row.{Row}
 use Rattle.pattern_store.specs.Next.{statesOf}
 use Rattle.pattern_store.specs.Format.{Known}
@@ -26,7 +26,7 @@ use Rattle.pattern_store.proofs.RowsLaws.{hasRow, Orderly, Added, state
 
 -- A list holds what is known: its numbers are those of the buffer.
 pub record Holds (k : Known) (b : List ℕ) : Type 0 where
-  pub size : length b ≡ bufferLength
+  pub size : length b ≡ patternLength
   pub labels : getD b 0 0 ≡ k .labels
   pub beads : getD b 1 0 ≡ beadCount (k .rows)
   pub rules : (j : ℕ) → j < 8 → getD b (2 + j) 0 ≡ ruleOfBead (k .rows) (j + 1)

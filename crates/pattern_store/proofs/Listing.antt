@@ -12,7 +12,7 @@ use Rattle.text.specs.Lines.{asLines, printable}
 use Rattle.fields.specs.Fields.{sameBytes}
 use Rattle.numbers.specs.Numbers.{digits, valueFrom, decimal}
 use Rattle.text.specs.Walk.{Outcome, accepted, faulty, walk}
-use Rattle.pattern_line.specs.Limits.{nextAt}
+use Rattle.layout.specs.Layout.{nextAt}
 use Rattle.lists.specs.Tables.{table}
 use Rattle.pattern_header.specs.Header.{sameFields, nameBytes, areNames, among, distinct}
 use Rattle.pattern_order.specs.Row.{followsLast, breaksTurns}

@@ -9,7 +9,7 @@ use borrow.Rule.Slice.PartMut.{putMid}
 use lib.ListN.{length, getD, take, drop, set, length-take, drop-of-length-le}
 use lib.Seq.{drop-drop}
 use Rattle.sets.specs.Sets.{singleton, union}
-use Rattle.pattern_line.specs.Limits.{bufferLength}
+use Rattle.layout.specs.Layout.{patternLength}
 use Rattle.pattern_store.specs.Store.{Storable, acceptingWith, storedValues, stored}
 use Rattle.pattern_order.specs.declared.LineValues.{LineValues}
 
@@ -26,7 +26,7 @@ pub ruleset accepting-kit = (accepting-more, accepting-same)
 
 -- ---- a row
 
-module _ (b : List ℕ) (v : LineValues) (f : Storable v) (size : length b ≡ bufferLength) where
+module _ (b : List ℕ) (v : LineValues) (f : Storable v) (size : length b ≡ patternLength) where
   pub place : (k : ℕ) → k ≤ 18 → k + (v .bead - 1) < length b
   place k h = let n = f .bead-high in omega arith
 
@@ -42,7 +42,7 @@ abbrev pub from : LineValues → ℕ
 from v = 26 + 256 * (v .bead - 1) + 16 * v .state
 
 module _ (b l next part : List ℕ) (v : LineValues) (g : l ≡ storedValues b v) where
-  pub sets-inside : Storable v → length l ≡ bufferLength → from v + 16 ≤ length l
+  pub sets-inside : Storable v → length l ≡ patternLength → from v + 16 ≤ length l
   sets-inside f n = let h = f .bead-high in let k = f .state-high in omega arith
 
   pub row-stored : Storable v → length next ≡ 16 → part ≡ next ++ drop (length next) (take (from v + 16 - from v) (drop (from v) l))

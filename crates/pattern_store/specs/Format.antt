@@ -7,7 +7,7 @@ use lib.ListN.{length}
 use Rattle.text.specs.Split.{split}
 use Rattle.text.specs.Lines.{TextLine, whole}
 use Rattle.text.specs.Walk.{Judged, refused, passed, Outcome, accepted, faulty, walk, Format, readText}
-use Rattle.pattern_line.specs.Limits.{mostText, mostLine}
+use Rattle.layout.specs.Layout.{mostPatternText, mostLine}
 use Rattle.pattern_header.specs.Header.{isHeader, labelCount}
 use Rattle.pattern_order.specs.Row.{Row, disordered, misruled}
 use Rattle.pattern_row.specs.Fields.{rowOf, malformed}
@@ -35,7 +35,7 @@ judgeLine k n l = cond (whole mostLine l) (cond (eqb n 1) (judgeHeader (split 32
 
 -- 10: text empty or over 16,384 bytes.
 abbrev pub patternFormat : Format Known
-patternFormat = record { most = mostText; size-refusal = 10; start = record { labels = 0; rows = [] }; judge = judgeLine }
+patternFormat = record { most = mostPatternText; size-refusal = 10; start = record { labels = 0; rows = [] }; judge = judgeLine }
 
 -- 15 and 16, looked for after all lines pass 11 to 14: the first row stands in line 2.
 abbrev pub judgeNext : List Row → Known → ℕ → Row → Judged Known

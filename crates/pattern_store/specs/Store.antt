@@ -5,7 +5,7 @@ use mathlib.Core.List.{List, _++_}
 use lib.Dec.{eqb}
 use lib.ListN.{getD, take, drop, set}
 use Rattle.sets.specs.Sets.{singleton, union}
-use Rattle.pattern_line.specs.Limits.{ruleAt, statesAt, acceptingAt, nextAt}
+use Rattle.layout.specs.Layout.{ruleAt, statesAt, acceptingAt, nextAt}
 use Rattle.pattern_row.specs.Answers.{nextSets}
 use Rattle.pattern_order.specs.declared.LineValues.{LineValues}
 use Rattle.pattern_order.specs.declared.LineAnswer.{LineAnswer}

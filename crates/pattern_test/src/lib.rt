@@ -3,13 +3,13 @@
 ghost use mathlib.Core.Path.{_≡_};
 ghost use Prim.Native.Nat.{_<_, _≤_};
 ghost use lib.ListN.{length};
-ghost use Rattle.pattern_line.specs.Limits.{bufferLength, mostBeads};
+ghost use Rattle.layout.specs.Layout.{patternLength, mostBeads};
 ghost use Rattle.pattern_buffer.specs.Valid.{turnOk, beadOk, beadsOk, isPattern};
 use pattern_buffer::nexts_ok;
 
 // Is the rule of the bead at place j another than that of the bead before?
 fn turn_ok(buffer: &[u16], j: u16) -> bool
-    requires { ⌜ bufferLength ≤ length (now buffer) ⌝ }
+    requires { ⌜ patternLength ≤ length (now buffer) ⌝ }
     requires { ⌜ j < mostBeads ⌝ }
     ensures { λ r. ⌜ r ≡ turnOk (now (buffer .entry)) j ⌝ }
 {
@@ -21,7 +21,7 @@ fn turn_ok(buffer: &[u16], j: u16) -> bool
 
 // The bead at place j: right if it is there, all zeros if it is not.
 fn bead_ok(buffer: &[u16], j: u16) -> bool
-    requires { ⌜ bufferLength ≤ length (now buffer) ⌝ }
+    requires { ⌜ patternLength ≤ length (now buffer) ⌝ }
     requires { ⌜ j < mostBeads ⌝ }
     ensures { λ r. ⌜ r ≡ beadOk (now (buffer .entry)) j ⌝ }
 {
@@ -58,7 +58,7 @@ fn bead_ok(buffer: &[u16], j: u16) -> bool
 
 // All 8 beads.
 fn beads_ok(buffer: &[u16]) -> bool
-    requires { ⌜ bufferLength ≤ length (now buffer) ⌝ }
+    requires { ⌜ patternLength ≤ length (now buffer) ⌝ }
     ensures { λ r. ⌜ r ≡ beadsOk (now (buffer .entry)) ⌝ }
 {
     let mut j = 0;
@@ -75,7 +75,7 @@ fn beads_ok(buffer: &[u16]) -> bool
 pub fn is_pattern(buffer: &[u16]) -> bool
     ensures { λ r. ⌜ r ≡ isPattern (now (buffer .entry)) ⌝ }
 {
-    if buffer.len() < 2074 {
+    if buffer.len() < layout::PATTERN_LENGTH {
         return false;
     }
     let labels = buffer[0];

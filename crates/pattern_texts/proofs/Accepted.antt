@@ -13,7 +13,7 @@ use Rattle.sets.proofs.Truth.{both-true}
 use Rattle.text.specs.Split.{split}
 use Rattle.text.specs.Lines.{TextLine, linesOf, whole}
 use Rattle.text.specs.Walk.{Judged, refused, passed, Outcome, accepted, faulty, walk, badSize, readText}
-use Rattle.pattern_line.specs.Limits.{mostLine, mostLabels, mostText}
+use Rattle.layout.specs.Layout.{mostLine, mostLabels, mostPatternText}
 use Rattle.pattern_header.specs.Header.{columns, sameFields, areNames, distinct, isHeader, labelCount}
 use Rattle.pattern_order.specs.Row.{Row, disordered, misruled}
 use Rattle.pattern_row.specs.Fields.{rowOf, malformed}
@@ -130,7 +130,7 @@ last-bead (more r o f l) n = last-positive r o f l
 
 read-out : (text : List ℕ) (k : Known) → (length (k .rows) ≡ 0 → ⊥) → readText patternFormat text ≡ accepted k
     → (1 ≤ k .labels) × (k .labels ≤ mostLabels) × (q : Row) × Ordered (k .labels) (k .rows) q
-read-out text k n e = go (linesOf text) (accept-unless (badSize mostText text) (walk judgeLine (patternFormat .start) 1 (linesOf text)) 10 0 k e .1)
+read-out text k n e = go (linesOf text) (accept-unless (badSize mostPatternText text) (walk judgeLine (patternFormat .start) 1 (linesOf text)) 10 0 k e .1)
   where
     go : (ls : List TextLine) → walk judgeLine (patternFormat .start) 1 ls ≡ accepted k
         → (1 ≤ k .labels) × (k .labels ≤ mostLabels) × (q : Row) × Ordered (k .labels) (k .rows) q

@@ -9,7 +9,7 @@ use lib.ListN.{length, getD, length-append, List·getD-append}
 use lib.Seq.{getD-append-add, getD-at}
 use Rattle.lists.specs.Places.{at}
 use Rattle.sets.specs.Sets.{setOf}
-use Rattle.pattern_line.specs.Limits.{mostBeads, mostStates, mostLabels, ruleAt, statesAt, acceptingAt, nextAt, bufferLength}
+use Rattle.layout.specs.Layout.{mostBeads, mostStates, mostLabels, ruleAt, statesAt, acceptingAt, nextAt, patternLength}
 use Rattle.pattern_store.specs.Next.{statesOf}
 use Rattle.pattern_store.specs.Format.{Known}
 use Rattle.lists.specs.Tables.{table}
@@ -51,7 +51,7 @@ module _ (k : Known) where
   abbrev from-rules : List ℕ
   from-rules = table rules 8 ++ from-states
 
-  pub length-buffer : length (bufferOf k) ≡ bufferLength
+  pub length-buffer : length (bufferOf k) ≡ patternLength
   length-buffer =
       let a = length-append (table rules 8) from-states in
       let b = length-append (table states 8) from-accepting in

@@ -16,7 +16,7 @@ use Rattle.lists.specs.Places.{at}
 use Rattle.sets.specs.Sets.{member, setOf}
 use Rattle.sets.proofs.Truth.{no-false}
 use Rattle.sets.proofs.Laws.{ext, setOf-below, member-setOf, below-within}
-use Rattle.pattern_line.specs.Limits.{mostBeads, mostStates, mostLabels, ruleAt, statesAt, acceptingAt, nextAt, bufferLength}
+use Rattle.layout.specs.Layout.{mostBeads, mostStates, mostLabels, ruleAt, statesAt, acceptingAt, nextAt, patternLength}
 use Rattle.pattern_order.specs.Row.{Row}
 use Rattle.pattern_store.specs.Next.{statesOf}
 use Rattle.pattern_store.specs.Format.{Known}
@@ -286,7 +286,7 @@ module _ (b : List ℕ) (p : Passes b) where
           ∙ sym (zero-next (inr (omega arith)))
 
   -- each place, by the part that it lies in
-  place-again : (i : ℕ) → i < bufferLength → at (bufferOf known) i ≡ at b i
+  place-again : (i : ℕ) → i < patternLength → at (bufferOf known) i ≡ at b i
   place-again i h = go (decLt i 1) (decLt i 2) (decLt i 10) (decLt i 18) (decLt i 26)
     where
       go : Dec (i < 1) → Dec (i < 2) → Dec (i < 10) → Dec (i < 18) → Dec (i < 26) → at (bufferOf known) i ≡ at b i
@@ -308,8 +308,8 @@ module _ (b : List ℕ) (p : Passes b) where
           rw z (next-place known ((i - 26) / 256) ((i - 26) / 16 % 16) ((i - 26) % 16) (omega arith) (omega arith) (omega arith)
           ∙ next-again ((i - 26) / 256) ((i - 26) / 16 % 16) ((i - 26) % 16) (omega arith) (omega arith) (omega arith))
 
-  pub gives-back : take bufferLength b ≡ bufferOf known
+  pub gives-back : take patternLength b ≡ bufferOf known
   gives-back =
-      let l : length (take bufferLength b) ≡ bufferLength = length-take-le bufferLength b (p .long) in
-      ext-getD 0 (take bufferLength b) (bufferOf known) (l ∙ sym (length-buffer known))
-      (λ i h. getD-take bufferLength b i 0 (rw l at h) ∙ sym (place-again i (rw l at h)))
+      let l : length (take patternLength b) ≡ patternLength = length-take-le patternLength b (p .long) in
+      ext-getD 0 (take patternLength b) (bufferOf known) (l ∙ sym (length-buffer known))
+      (λ i h. getD-take patternLength b i 0 (rw l at h) ∙ sym (place-again i (rw l at h)))

@@ -14,7 +14,7 @@ use Rattle.lists.specs.Places.{at}
 use Rattle.sets.specs.Sets.{member, setOf}
 use Rattle.sets.proofs.Truth.{false-no}
 use Rattle.sets.proofs.Laws.{within-below, setOf-above, member-setOf}
-use Rattle.pattern_line.specs.Limits.{mostBeads, mostStates, mostLabels, ruleAt, statesAt, acceptingAt, nextAt, bufferLength}
+use Rattle.layout.specs.Layout.{mostBeads, mostStates, mostLabels, ruleAt, statesAt, acceptingAt, nextAt, patternLength}
 use Rattle.pattern_order.specs.Row.{Row}
 use Rattle.pattern_store.specs.Next.{statesOf, allWithin}
 use Rattle.pattern_store.specs.Format.{Known}
@@ -29,15 +29,15 @@ use Rattle.pattern_texts.proofs.Buffers.{rule-place, states-place, acce
 
 -- ---- place by place
 
-module _ (k : Known) (sound : Sound k) (b : List ℕ) (long : bufferLength ≤ length b) (gives : take bufferLength b ≡ bufferOf k) where
+module _ (k : Known) (sound : Sound k) (b : List ℕ) (long : patternLength ≤ length b) (gives : take patternLength b ≡ bufferOf k) where
   abbrev rows : List Row
   rows = k .rows
 
   tells : Told (k .labels) rows (sound .last)
   tells = told (sound .ordered)
 
-  place : (i : ℕ) → i < bufferLength → at b i ≡ at (bufferOf k) i
-  place i h = sym (getD-take bufferLength b i 0 h) ∙ ap (λ (l : List ℕ). at l i) gives
+  place : (i : ℕ) → i < patternLength → at b i ≡ at (bufferOf k) i
+  place i h = sym (getD-take patternLength b i 0 h) ∙ ap (λ (l : List ℕ). at l i) gives
 
   labels-are : labelsIn b ≡ k .labels
   labels-are = place 0 (omega arith)

@@ -7,7 +7,7 @@ use mathlib.Core.List.{Memᴰ·append-left, Memᴰ·append-right}
 use native.Mathlib.Decide.{ℕ-discrete, decLt}
 use native.Mathlib.Omega.{arith}
 use lib.ListN.{length}
-use Rattle.pattern_line.specs.Limits.{mostBeads, mostStates}
+use Rattle.layout.specs.Layout.{mostBeads, mostStates}
 use Rattle.pattern_order.specs.Row.{Row}
 use Rattle.pattern_store.specs.Next.{statesOf}
 use Rattle.pattern_store.specs.Buffer.{beadCount, ruleOfBead}

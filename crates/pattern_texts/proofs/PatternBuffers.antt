@@ -11,7 +11,7 @@ use Rattle.sets.specs.Sets.{member, members, setOf}
 use Rattle.sets.proofs.Laws.{member-setOf}
 use Rattle.necklace.specs.Necklace.{Pattern}
 use Rattle.text.specs.Walk.{accepted}
-use Rattle.pattern_line.specs.Limits.{mostBeads, mostStates, mostLabels, ruleAt, statesAt, acceptingAt, nextAt, bufferLength}
+use Rattle.layout.specs.Layout.{mostBeads, mostStates, mostLabels, ruleAt, statesAt, acceptingAt, nextAt, patternLength}
 use Rattle.pattern_order.specs.Row.{Row}
 use Rattle.pattern_store.specs.Next.{statesOf}
 use Rattle.pattern_store.specs.Format.{Known, patternText}
@@ -34,7 +34,7 @@ pub text-reads : (b : List ℕ) → T (isPattern b) → patternText (textOf b) �
 text-reads b t = text-accepted b (passes-out b t)
 
 -- And it gives the buffer.
-pub text-gives : (b : List ℕ) → T (isPattern b) → take bufferLength b ≡ bufferOf (record { labels = labelsIn b; rows = rowsOf b })
+pub text-gives : (b : List ℕ) → T (isPattern b) → take patternLength b ≡ bufferOf (record { labels = labelsIn b; rows = rowsOf b })
 text-gives b t = gives-back b (passes-out b t)
 
 pub pattern-buffers : (b : List ℕ) → T (isPattern b) ↔ GivenPattern b
@@ -62,12 +62,12 @@ pub record Means (P : Pattern) (labels : ℕ) (rows : List Row) : Type 0 where
   pub next : (j q a : ℕ) → j < beadCount rows → q < statesOf rows (j + 1) → a < labels
       → P .bead j .automaton .next q a ≡ members mostStates (nextOf rows (j + 1) q a)
 
-module _ (b text : List ℕ) (k : Known) (reads : patternText text ≡ accepted k) (long : bufferLength ≤ length b) (gives : take bufferLength b ≡ bufferOf k) where
+module _ (b text : List ℕ) (k : Known) (reads : patternText text ≡ accepted k) (long : patternLength ≤ length b) (gives : take patternLength b ≡ bufferOf k) where
   passes : Passes b
   passes = sound-passes k (text-out text k reads) b long gives
 
-  place : (i : ℕ) → i < bufferLength → at b i ≡ at (bufferOf k) i
-  place i h = sym (getD-take bufferLength b i 0 h) ∙ ap (λ (l : List ℕ). at l i) gives
+  place : (i : ℕ) → i < patternLength → at b i ≡ at (bufferOf k) i
+  place i h = sym (getD-take patternLength b i 0 h) ∙ ap (λ (l : List ℕ). at l i) gives
 
   beads-are : beadsIn b ≡ beadCount (k .rows)
   beads-are = place 1 (omega arith)

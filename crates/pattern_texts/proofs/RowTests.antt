@@ -11,7 +11,7 @@ use lib.ListN.{length, getD, drop, length-drop, length-map}
 use Rattle.sets.proofs.Truth.{both-true, both-false}
 use Rattle.fields.specs.Fields.{sameBytes}
 use Rattle.numbers.specs.Numbers.{isNumber, valueOf}
-use Rattle.pattern_line.specs.Limits.{mostBeads, mostStates}
+use Rattle.layout.specs.Layout.{mostBeads, mostStates}
 use Rattle.pattern_order.specs.Row.{Row, followsLast, disordered, breaksTurns, misruled}
 use Rattle.pattern_row.specs.Fields.{ruleOf, rowOf, malformed}
 use Rattle.numbers.specs.Listed.{areNumbers}

@@ -16,7 +16,7 @@ use Rattle.text.specs.Lines.{printable, whole}
 use Rattle.text.specs.Walk.{accepted}
 use Rattle.fields.specs.Fields.{sameBytes}
 use Rattle.numbers.specs.Numbers.{spellIn}
-use Rattle.pattern_line.specs.Limits.{mostLine, mostLabels}
+use Rattle.layout.specs.Layout.{mostLine, mostLabels}
 use Rattle.pattern_header.specs.Header.{columns, sameFields, nameBytes, areNames, among, distinct, isHeader, labelCount}
 use Rattle.pattern_store.specs.Format.{patternText}
 use Rattle.pattern_buffer.specs.Meaning.{labelsIn}

@@ -18,7 +18,7 @@ use Rattle.sets.specs.Sets.{single}
 use Rattle.text.specs.Split.{joined, lineFrom}
 use Rattle.text.specs.Lines.{TextLine, linesOf, printable}
 use Rattle.text.specs.Walk.{Judged, refused, passed, accepted, walk, readText}
-use Rattle.pattern_line.specs.Limits.{mostText, mostLine, mostStates, ruleAt, statesAt, nextAt}
+use Rattle.layout.specs.Layout.{mostPatternText, mostLine, mostStates, ruleAt, statesAt, nextAt}
 use Rattle.pattern_order.specs.Row.{Row, disordered, misruled}
 use Rattle.pattern_store.specs.Next.{statesOf, allWithin, strays, ambiguous}
 use Rattle.pattern_row.specs.Fields.{rowOf, malformed}
@@ -233,7 +233,7 @@ module _ (b : List ℕ) (p : Passes b) where
     read-accepted =
         let l = under-length in
         let a = sizes in
-        rw (ne-eqb (length text) 0 (λ e. omega arith), le-ltb mostText (length text) (omega arith)) lines-accepted
+        rw (ne-eqb (length text) 0 (λ e. omega arith), le-ltb mostPatternText (length text) (omega arith)) lines-accepted
 
     pub under-accepted : patternText (textUnder (header ++ (10 ∷ [])) b) ≡ accepted (known b p)
     under-accepted =

@@ -9,7 +9,7 @@ use Rattle.sets.specs.Sets.{member}
 use Rattle.text.specs.Split.{split, lineFrom}
 use Rattle.text.specs.Lines.{whole}
 use Rattle.numbers.specs.Numbers.{spell}
-use Rattle.pattern_line.specs.Limits.{ruleAt, statesAt, acceptingAt, nextAt, mostLine}
+use Rattle.layout.specs.Layout.{ruleAt, statesAt, acceptingAt, nextAt, mostLine}
 use Rattle.pattern_header.specs.Header.{columns}
 use Rattle.pattern_order.specs.Row.{Row}
 use Rattle.pattern_header.specs.Header.{isHeader, labelCount}

@@ -16,7 +16,7 @@ use Rattle.text.specs.declared.lines.Line.{Line}
 use Rattle.text.specs.declared.lines.Line.the-variants.{Whole, Broken}
 use Rattle.lists.proofs.Parts.{rest-part}
 use Rattle.text.proofs.WalkLaws.{text-end, text-broken, text-refused, text-passed, lent-whole, line-in, after-in, left-falls, size-empty, size-over, size-right}
-use Rattle.pattern_line.specs.Limits.{mostText, bufferLength}
+use Rattle.layout.specs.Layout.{mostPatternText, patternLength}
 use Rattle.pattern_line.specs.Line.{fieldsOf}
 use Rattle.pattern_order.specs.Row.{Row}
 use Rattle.pattern_row.specs.Fields.{rowOf}
@@ -121,7 +121,7 @@ pub record Before (text : List ℕ) (labels at line : ℕ) (last : Last) (buffer
   pub inside : at ≤ length text
   pub low : 2 ≤ line
   pub number : line ≤ at + 1
-  pub short : length text ≤ mostText
+  pub short : length text ≤ mostPatternText
   pub left : readText patternFormat text ≡ walk judgeLine (record { labels = labels; rows = rows }) line (linesOf (drop at text))
   pub sound : Sound labels rows
   pub last-is : last ≡ lastOf rows
@@ -148,7 +148,7 @@ rows-none text labels start b h e =
     }
 
 module _ (text : List ℕ) (labels at line : ℕ) (last : Last) (buffer : List ℕ) (d : Before text labels at line last buffer) where
-  pub rows-size : length buffer ≡ bufferLength
+  pub rows-size : length buffer ≡ patternLength
   rows-size = ap length (d .numbers) ∙ buffer-holds (record { labels = labels; rows = d .rows }) .size
 
   pub rows-end : length text ≤ at → LinesRead text buffer

@@ -5,7 +5,7 @@ use mathlib.Core.List.{List, []}
 use lib.ListN.{length, drop}
 use Rattle.text.specs.Lines.{linesOf}
 use Rattle.text.specs.Walk.{accepted, faulty, walk, readText}
-use Rattle.pattern_line.specs.Limits.{mostText, mostLabels}
+use Rattle.layout.specs.Layout.{mostPatternText, mostLabels}
 use Rattle.pattern_store.specs.Format.{Known, judgeLine, patternFormat}
 use Rattle.pattern_store.specs.Buffer.{bufferOf}
 use Rattle.pattern_line.specs.Answers.{refusalNumber}
@@ -18,7 +18,7 @@ use Rattle.pattern_walk.specs.declared.RowsAnswer.the-variants.{Stored, 
 pub record HeaderRead (text : List ℕ) (labels at : ℕ) : Type 0 where
   pub left : readText patternFormat text ≡ walk judgeLine (record { labels = labels; rows = [] }) 2 (linesOf (drop at text))
   pub few : labels ≤ mostLabels
-  pub short : length text ≤ mostText
+  pub short : length text ≤ mostPatternText
   pub begun : 1 ≤ at
   pub inside : at ≤ length text
 

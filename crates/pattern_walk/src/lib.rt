@@ -3,7 +3,7 @@ ghost use mathlib.Core.Path.{_≡_};
 ghost use mathlib.Core.List.{[]};
 ghost use Prim.Native.Nat.{_≤_};
 ghost use lib.ListN.{length};
-ghost use Rattle.pattern_line.specs.Limits.{bufferLength, mostLabels};
+ghost use Rattle.layout.specs.Layout.{patternLength, mostLabels};
 ghost use Rattle.pattern_line.specs.Line.{fieldsOf};
 ghost use Rattle.pattern_store.specs.Buffer.{bufferOf};
 ghost use Rattle.pattern_order.specs.Answers.{lineSaid, rowsAt};
@@ -39,10 +39,10 @@ pub fn read_first(text: &[u8]) -> FirstAnswer
     if text.len() == 0 {
         return FirstAnswer::Refused(Refusal::Size, 0);
     }
-    if text.len() > 16384 {
+    if text.len() > layout::MOST_PATTERN_TEXT {
         return FirstAnswer::Refused(Refusal::Size, 0);
     }
-    match read_line(text, 240) {
+    match read_line(text, layout::MOST_LINE) {
         Line::Broken(_) => FirstAnswer::Refused(Refusal::Malformed, 1),
         Line::Whole(n) => {
             let after = n + 1;
@@ -56,7 +56,7 @@ pub fn read_first(text: &[u8]) -> FirstAnswer
 
 // What a line says after the line before; where it passes, it is stored.
 fn take_row(line: &[u8], labels: u16, last: Last, buffer: &mut [u16]) -> LineAnswer
-    requires { ⌜ (labels ≤ mostLabels) × (length (now buffer) ≡ bufferLength) ⌝ }
+    requires { ⌜ (labels ≤ mostLabels) × (length (now buffer) ≡ patternLength) ⌝ }
     ensures { λ r. ⌜ lineSaid r ≡ rowJudged labels (rowsAt last) (fieldsOf (now (line .entry))) ⌝ }
     ensures { λ r. ⌜ now (buffer .exit) ≡ rowStored (now (buffer .entry)) r (fieldsOf (now (line .entry))) ⌝ }
 {
@@ -83,7 +83,7 @@ pub fn read_rows(text: &[u8], start: usize, labels: u16, buffer: &mut [u16]) -> 
     let mut at = start;
     let mut line = 2;
     while at < text.len() {
-        match read_line(&text[at..], 240) {
+        match read_line(&text[at..], layout::MOST_LINE) {
             Line::Broken(_) => {
                 return RowsAnswer::Refused(Refusal::Malformed, line);
             }

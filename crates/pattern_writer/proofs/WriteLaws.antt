@@ -18,7 +18,7 @@ use Rattle.answer.specs.Faults.{Fault, when, firstFault, answerOr, keptOr}
 use Rattle.answer.proofs.FaultLaws.{answer-refused, answer-accepted, room-kept, room-filled, first-below, stopped-below, passed-past, passed-all}
 use Rattle.writing.specs.Put.{Put}
 use Rattle.writing.proofs.PutLaws.{then}
-use Rattle.pattern_line.specs.Limits.{bufferLength}
+use Rattle.layout.specs.Layout.{patternLength}
 use Rattle.pattern_byte.specs.Header.{headerTextAt}
 use Rattle.pattern_buffer.specs.Meaning.{labelsIn}
 use Rattle.pattern_buffer.specs.Valid.{isPattern}
@@ -147,13 +147,13 @@ module _ (pattern header text : List ℕ) (h : 2074 ≤ length pattern) where
 
   pub call-answer : (r : Answer) → r ≡ answerUnder (testFaults (take 2074 pattern) header text) (take 2074 pattern) header → r ≡ writeAnswer pattern header text
   call-answer =
-      later-answer (ltb (length pattern) bufferLength) (refusedAt 2 0) (testFaults (take bufferLength pattern) header text)
-      (le-ltb (length pattern) bufferLength h) (take 2074 pattern) header
+      later-answer (ltb (length pattern) patternLength) (refusedAt 2 0) (testFaults (take patternLength pattern) header text)
+      (le-ltb (length pattern) patternLength h) (take 2074 pattern) header
 
   pub call-text : (exit : List ℕ) → exit ≡ textUnderFaults (testFaults (take 2074 pattern) header text) (take 2074 pattern) header text
       → exit ≡ textAfter pattern header text
   call-text =
-      later-text (ltb (length pattern) bufferLength) (refusedAt 2 0) (testFaults (take bufferLength pattern) header text)
-      (le-ltb (length pattern) bufferLength h) (take 2074 pattern) header text
+      later-text (ltb (length pattern) patternLength) (refusedAt 2 0) (testFaults (take patternLength pattern) header text)
+      (le-ltb (length pattern) patternLength h) (take 2074 pattern) header text
 
 pub ruleset call-kit = (part-counts, part-some, call-answer, call-text)

@@ -9,7 +9,7 @@ use Rattle.answer.specs.Answers.{acceptedWith, refusedAt, refusedIn}
 use Rattle.answer.specs.Faults.{Fault, when, firstFault, answerOr, keptOr}
 use Rattle.text.specs.Split.{split}
 use Rattle.text.specs.Lines.{TextLine, linesOf, whole}
-use Rattle.pattern_line.specs.Limits.{mostLine, bufferLength}
+use Rattle.layout.specs.Layout.{mostLine, patternLength}
 use Rattle.pattern_header.specs.Header.{isHeader, labelCount}
 use Rattle.pattern_byte.specs.Header.{headerTextAt}
 use Rattle.pattern_buffer.specs.Meaning.{labelsIn}
@@ -35,7 +35,7 @@ written header b = textUnder header b
 
 -- Numbers past 2,074 do not matter.
 abbrev pub patternWritten : List ℕ → List ℕ → List ℕ
-patternWritten header pattern = written header (take bufferLength pattern)
+patternWritten header pattern = written header (take patternLength pattern)
 
 -- 8: the text buffer is shorter than the output.
 abbrev pub roomFaults : List ℕ → List ℕ → List ℕ → List Fault
@@ -51,15 +51,15 @@ testFaults b header text =
 -- The refusals: 2, the pattern buffer is shorter than 2,074; then those.
 abbrev pub writeFaults : List ℕ → List ℕ → List ℕ → List Fault
 writeFaults pattern header text =
-    when (ltb (length pattern) bufferLength) (refusedAt 2 0) ∷ testFaults (take bufferLength pattern) header text
+    when (ltb (length pattern) patternLength) (refusedAt 2 0) ∷ testFaults (take patternLength pattern) header text
 
 -- The same as they were before there was a byte.
 abbrev pub faultsBefore : List ℕ → List ℕ → List ℕ → List Fault
 faultsBefore pattern header text =
-    when (ltb (length pattern) bufferLength) (refusedAt 2 0)
-    ∷ when (not (isPattern (take bufferLength pattern))) (refusedAt 6 0)
-    ∷ when (not (headerFits (labelsIn (take bufferLength pattern)) header)) (refusedAt 12 1)
-    ∷ roomFaults (take bufferLength pattern) header text
+    when (ltb (length pattern) patternLength) (refusedAt 2 0)
+    ∷ when (not (isPattern (take patternLength pattern))) (refusedAt 6 0)
+    ∷ when (not (headerFits (labelsIn (take patternLength pattern)) header)) (refusedAt 12 1)
+    ∷ roomFaults (take patternLength pattern) header text
 
 -- Accepted counts the output's bytes.
 abbrev pub writeAnswer : List ℕ → List ℕ → List ℕ → Answer

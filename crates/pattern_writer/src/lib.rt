@@ -33,7 +33,7 @@ fn names_labels(labels: u16, line: &[u8]) -> bool
 fn header_fits(labels: u16, header: &[u8]) -> bool
     ensures { λ r. ⌜ r ≡ headerFits labels (now (header .entry)) ⌝ }
 {
-    match read_line(header, 240) {
+    match read_line(header, layout::MOST_LINE) {
         Line::Broken(_) => false,
         Line::Whole(n) => {
             if n + 1 < header.len() {
@@ -106,8 +106,8 @@ pub fn write_pattern(pattern: &[u16], header: &[u8], text: &mut [u8]) -> Answer
     ensures { λ r. ⌜ r ≡ writeAnswer (now (pattern .entry)) (now (header .entry)) (now (text .entry)) ⌝ }
     ensures { λ _. ⌜ now (text .exit) ≡ textAfter (now (pattern .entry)) (now (header .entry)) (now (text .entry)) ⌝ }
 {
-    if pattern.len() < 2074 {
+    if pattern.len() < layout::PATTERN_LENGTH {
         return answer::refused(2, 0);
     }
-    write_fit(&pattern[..2074], header, text)
+    write_fit(&pattern[..layout::PATTERN_LENGTH], header, text)
 }

@@ -20,7 +20,7 @@ use Rattle.text.specs.Walk.{accepted, walk}
 use Rattle.fields.specs.Fields.{sameBytes}
 use Rattle.numbers.specs.Numbers.{digits, valueFrom, decimal, spellIn}
 use Rattle.numbers.specs.Listed.{areNumbers}
-use Rattle.pattern_line.specs.Limits.{bufferLength}
+use Rattle.layout.specs.Layout.{patternLength}
 use Rattle.pattern_header.specs.Header.{sameFields, nameBytes, areNames, among, distinct}
 use Rattle.pattern_order.specs.Row.{followsLast, breaksTurns}
 use Rattle.pattern_store.specs.Next.{statesOf, allWithin, allSingle}
@@ -76,14 +76,14 @@ pub record Facts : Type 0 where
 abbrev pub factsOf : List ℕ → Facts
 factsOf pattern = record {
   size = length pattern;
-  is = isPattern (take bufferLength pattern);
-  labels = labelsIn (take bufferLength pattern);
-  rows = rowLines (rowsOf (take bufferLength pattern));
+  is = isPattern (take patternLength pattern);
+  labels = labelsIn (take patternLength pattern);
+  rows = rowLines (rowsOf (take patternLength pattern));
 }
 
 abbrev pub faultsBy : Facts → List ℕ → List ℕ → List Fault
 faultsBy f h text =
-    when (ltb (f .size) bufferLength) (refusedAt 2 0)
+    when (ltb (f .size) patternLength) (refusedAt 2 0)
     ∷ when (not (f .is)) (refusedAt 6 0)
     ∷ when (not (headerFits (f .labels) h)) (refusedIn 12 1 (headerTextAt h))
     ∷ when (ltb (length text) (length (h ++ f .rows))) (refusedAt 8 0)
@@ -121,8 +121,8 @@ factsBy right = record { size = 2075; is = true; labels = 1; rows = lines }
 factsBy wrong = record { size = 2074; is = false; labels = 0; rows = [] }
 factsBy small = record { size = 2073; is = false; labels = 0; rows = [] }
 
-front : take bufferLength (bufferOf two ++ (7 ∷ [])) ≡ bufferOf two
-front = take-at (bufferOf two) (7 ∷ []) bufferLength (length-buffer two)
+front : take patternLength (bufferOf two ++ (7 ∷ [])) ≡ bufferOf two
+front = take-at (bufferOf two) (7 ∷ []) patternLength (length-buffer two)
 
 right-is : isPattern (bufferOf two) ≡ true
 right-is =
@@ -133,7 +133,7 @@ right-is =
       text = header ++ lines;
       known = two;
       reads = reads;
-      gives = take-all bufferLength (bufferOf two) (let h = length-buffer two in omega arith);
+      gives = take-all patternLength (bufferOf two) (let h = length-buffer two in omega arith);
     }))
 
 right-rows : rowLines (rowsOf (bufferOf two)) ≡ lines
@@ -147,7 +147,7 @@ facts-right : factsOf (bufferBy right) ≡ factsBy right
 facts-right =
     let b = bufferOf two ++ (7 ∷ []) in
     let n : length b ≡ 2075 = length-append (bufferOf two) (7 ∷ []) ∙ (let h = length-buffer two in omega arith) in
-    ap (λ (m : ℕ). told m (isPattern (take bufferLength b)) (labelsIn (take bufferLength b)) (rowLines (rowsOf (take bufferLength b)))) n
+    ap (λ (m : ℕ). told m (isPattern (take patternLength b)) (labelsIn (take patternLength b)) (rowLines (rowsOf (take patternLength b)))) n
     ∙ ap (λ (t : List ℕ). told 2075 (isPattern t) (labelsIn t) (rowLines (rowsOf t))) front
     ∙ ap (λ (i : Bool). told 2075 i 1 (rowLines (rowsOf (bufferOf two)))) right-is
     ∙ ap (told 2075 true 1) right-rows

@@ -15,7 +15,7 @@ use Rattle.text.specs.Lines.{TextLine, linesOf, printable, whole}
 use Rattle.line_places.specs.Place.{placeWhere, unprintablePlace, rankedAt}
 use Rattle.line_places.proofs.LineLaws.{place-printable}
 use Rattle.line_places.proofs.FaultLaws.{field-at-fault, byte-at-fault}
-use Rattle.pattern_line.specs.Limits.{mostLine}
+use Rattle.layout.specs.Layout.{mostLine}
 use Rattle.pattern_header.specs.Header.{isHeader, labelCount}
 use Rattle.pattern_places.specs.Place.{wrongName, headerAt}
 use Rattle.pattern_byte.specs.Header.{oneLineAt, headerTextAt}

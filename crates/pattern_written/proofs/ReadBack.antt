@@ -17,7 +17,7 @@ use Rattle.pattern_byte.specs.Header.{headerTextAt}
 use Rattle.answer.specs.Faults.{when}
 use Rattle.answer.proofs.FaultLaws.{Passed, numbered, accepted-passed, passed-first, passed-others, answer-accepted, room-filled, passed-past, passed-all}
 use Rattle.text.specs.Walk.{Outcome, accepted}
-use Rattle.pattern_line.specs.Limits.{bufferLength}
+use Rattle.layout.specs.Layout.{patternLength}
 use Rattle.pattern_store.specs.Format.{Known, patternText}
 use Rattle.pattern_store.specs.Buffer.{bufferOf}
 use Rattle.pattern.specs.Answer.{answerOf, filledBy, hostFaults, patternAnswer, patternAfter}
@@ -35,7 +35,7 @@ use Rattle.pattern_writer.proofs.WriteLaws.{written-length}
 
 module _ (pattern header text : List ℕ) (a : T (accepts pattern header text)) where
   abbrev b : List ℕ
-  b = take bufferLength pattern
+  b = take patternLength pattern
 
   -- ---- an accepted write has no fault
 
@@ -45,7 +45,7 @@ module _ (pattern header text : List ℕ) (a : T (accepts pattern header text)) 
 
   tested : Tested b header
   tested =
-      let p = passed-others (ltb (length pattern) bufferLength) (refusedAt 2 0) (testFaults b header text) passed in
+      let p = passed-others (ltb (length pattern) patternLength) (refusedAt 2 0) (testFaults b header text) passed in
       let q = passed-others (not (isPattern b)) (refusedAt 6 0) (when (not (headerFits (labelsIn b) header)) (refusedIn 12 1 (headerTextAt header)) ∷ roomFaults b header text) p in
       record {
         is-pattern = true-yes (isPattern b) (not-false (isPattern b)
@@ -85,21 +85,21 @@ module _ (pattern header text : List ℕ) (a : T (accepts pattern header text)) 
 
   gives : bufferOf known ≡ b
   gives =
-      sym (text-gives b (tested .is-pattern)) ∙ take-all bufferLength b (let h = length-take bufferLength pattern in omega arith)
+      sym (text-gives b (tested .is-pattern)) ∙ take-all patternLength b (let h = length-take patternLength pattern in omega arith)
 
-  module _ (buffer : List ℕ) (h : bufferLength ≤ length buffer) where
+  module _ (buffer : List ℕ) (h : patternLength ≤ length buffer) where
     host : Passed (hostFaults buffer)
-    host = passed-past (length buffer) bufferLength (refusedAt 2 0) [] h passed-all
+    host = passed-past (length buffer) patternLength (refusedAt 2 0) [] h passed-all
 
     answers : patternAnswer (patternWritten header pattern) buffer ≡ acceptedWith (beadsIn pattern)
     answers =
         sym (answer-accepted (hostFaults buffer) (acceptedWith (beadsIn pattern)) (answerOf (patternWritten header pattern) (patternText (patternWritten header pattern))) host
-        (sym (ap (answerOf (patternWritten header pattern)) reads ∙ ap acceptedWith (ap (λ (l : List ℕ). getD l 1 0) gives ∙ getD-take bufferLength pattern 1 0 (omega arith)))))
+        (sym (ap (answerOf (patternWritten header pattern)) reads ∙ ap acceptedWith (ap (λ (l : List ℕ). getD l 1 0) gives ∙ getD-take patternLength pattern 1 0 (omega arith)))))
 
-    fills : patternAfter (patternWritten header pattern) buffer ≡ b ++ drop bufferLength buffer
+    fills : patternAfter (patternWritten header pattern) buffer ≡ b ++ drop patternLength buffer
     fills =
-        sym (room-filled (hostFaults buffer) buffer (filledBy (patternText (patternWritten header pattern)) buffer) (b ++ drop bufferLength buffer) host
-        (sym (ap (λ (o : Outcome Known). filledBy o buffer) reads ∙ ap (λ (l : List ℕ). l ++ drop bufferLength buffer) gives)))
+        sym (room-filled (hostFaults buffer) buffer (filledBy (patternText (patternWritten header pattern)) buffer) (b ++ drop patternLength buffer) host
+        (sym (ap (λ (o : Outcome Known). filledBy o buffer) reads ∙ ap (λ (l : List ℕ). l ++ drop patternLength buffer) gives)))
 
   pub pattern-read-back : ReadBack pattern header text
   pattern-read-back = record {
@@ -116,7 +116,7 @@ module _ (pattern header text : List ℕ) (a : T (accepts pattern header text)) 
 
 -- Two accepted writes with the same output have the same 2,074 numbers.
 pub patterns-differ : (p q h g t u : List ℕ) → T (accepts p h t) → T (accepts q g u) → patternWritten h p ≡ patternWritten g q
-    → take bufferLength p ≡ take bufferLength q
+    → take patternLength p ≡ take patternLength q
 patterns-differ p q h g t u a c e =
     let r = pattern-read-back p h t a in
     let s = pattern-read-back q g u c in

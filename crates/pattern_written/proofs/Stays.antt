@@ -10,7 +10,7 @@ use lib.Dec.{ltb}
 use lib.ListN.{length, take}
 use Rattle.answer.specs.Answers.{acceptedWith, refusedAt, refusedIn, withoutByte}
 use Rattle.answer.specs.Faults.{Fault, when, firstFault, answerOr, keptOr}
-use Rattle.pattern_line.specs.Limits.{bufferLength}
+use Rattle.layout.specs.Layout.{patternLength}
 use Rattle.pattern_byte.specs.Header.{headerTextAt}
 use Rattle.pattern_byte.proofs.HeaderLaws.{header-text-most}
 use Rattle.pattern_buffer.specs.Meaning.{labelsIn}
@@ -21,7 +21,7 @@ module _ (pattern header text : List ℕ) where
   pub numbers-stay : withoutByte (writeAnswer pattern header text) ≡ answerOr (firstFault (faultsBefore pattern header text)) (acceptedWith (length (patternWritten header pattern)))
   unfolding firstFault answerOr
   numbers-stay =
-      go (ltb (length pattern) bufferLength) (not (isPattern (take bufferLength pattern))) (not (headerFits (labelsIn (take bufferLength pattern)) header))
+      go (ltb (length pattern) patternLength) (not (isPattern (take patternLength pattern))) (not (headerFits (labelsIn (take patternLength pattern)) header))
       (ltb (length text) (length (patternWritten header pattern))) (headerTextAt header)
     where
       go : (a b c d : Bool) (byte : ℕ)
@@ -36,7 +36,7 @@ module _ (pattern header text : List ℕ) where
   pub after-stays : textAfter pattern header text ≡ keptOr (firstFault (faultsBefore pattern header text)) text (inFront (patternWritten header pattern) text)
   unfolding firstFault keptOr
   after-stays =
-      go (ltb (length pattern) bufferLength) (not (isPattern (take bufferLength pattern))) (not (headerFits (labelsIn (take bufferLength pattern)) header))
+      go (ltb (length pattern) patternLength) (not (isPattern (take patternLength pattern))) (not (headerFits (labelsIn (take patternLength pattern)) header))
       (ltb (length text) (length (patternWritten header pattern))) (headerTextAt header)
     where
       go : (a b c d : Bool) (byte : ℕ)
@@ -51,7 +51,7 @@ module _ (pattern header text : List ℕ) where
   pub byte-small : writeAnswer pattern header text .byte ≤ 241
   unfolding firstFault answerOr
   byte-small =
-      go (ltb (length pattern) bufferLength) (not (isPattern (take bufferLength pattern))) (not (headerFits (labelsIn (take bufferLength pattern)) header))
+      go (ltb (length pattern) patternLength) (not (isPattern (take patternLength pattern))) (not (headerFits (labelsIn (take patternLength pattern)) header))
       (ltb (length text) (length (patternWritten header pattern))) (headerTextAt header) (header-text-most header)
     where
       go : (a b c d : Bool) (byte : ℕ) → byte ≤ 241

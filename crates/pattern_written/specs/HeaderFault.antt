@@ -8,7 +8,7 @@ use lib.ListN.{length}
 use Rattle.text.specs.Split.{split}
 use Rattle.text.specs.Lines.{TextLine, linesOf, whole}
 use Rattle.line_places.specs.Fault.{FieldAtFault, ByteAtFault}
-use Rattle.pattern_line.specs.Limits.{mostLine}
+use Rattle.layout.specs.Layout.{mostLine}
 use Rattle.pattern_header.specs.Header.{isHeader, labelCount}
 use Rattle.pattern_places.specs.Place.{wrongName}
 

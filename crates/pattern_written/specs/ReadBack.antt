@@ -5,7 +5,7 @@ use mathlib.Core.List.{List, _++_}
 use lib.ListN.{length, take, drop}
 use Rattle.answer.specs.Answers.{acceptedWith}
 use Rattle.text.specs.Walk.{accepted}
-use Rattle.pattern_line.specs.Limits.{bufferLength}
+use Rattle.layout.specs.Layout.{patternLength}
 use Rattle.pattern_store.specs.Format.{Known, patternText}
 use Rattle.pattern_store.specs.Buffer.{bufferOf}
 use Rattle.pattern.specs.Answer.{patternAnswer, patternAfter}
@@ -21,7 +21,7 @@ pub record ReadBack (pattern header text : List ℕ) : Type 0 where
   -- The reader accepts it, and what it reads gives the pattern's numbers.
   pub known : Known
   pub reads : patternText output ≡ accepted known
-  pub gives : bufferOf known ≡ take bufferLength pattern
+  pub gives : bufferOf known ≡ take patternLength pattern
   -- So reading it into any buffer that is long enough fills that with them.
-  pub answers : (buffer : List ℕ) → bufferLength ≤ length buffer → patternAnswer output buffer ≡ acceptedWith (beadsIn pattern)
-  pub fills : (buffer : List ℕ) → bufferLength ≤ length buffer → patternAfter output buffer ≡ take bufferLength pattern ++ drop bufferLength buffer
+  pub answers : (buffer : List ℕ) → patternLength ≤ length buffer → patternAnswer output buffer ≡ acceptedWith (beadsIn pattern)
+  pub fills : (buffer : List ℕ) → patternLength ≤ length buffer → patternAfter output buffer ≡ take patternLength pattern ++ drop patternLength buffer

@@ -1,11 +1,11 @@
 // The first phase, beads upwards: at which steps each prefix of the pattern holds.
 ghost use Prim.Native.Nat.{_<_, _≤_};
 ghost use lib.ListN.{length};
+ghost use Rattle.layout.specs.Layout.{workLength};
 ghost use Rattle.log_buffer.specs.Meaning.{logOf, stepsIn};
 ghost use Rattle.pattern_buffer.specs.Meaning.{patternOf};
 ghost use Rattle.log_links.specs.Links.{LastTo};
 ghost use Rattle.hope.specs.Hope.{Hopes};
-ghost use Rattle.lanes.specs.Lanes.{workLength};
 ghost use Rattle.serving.specs.Serving.{Asked};
 ghost use Rattle.prefix_phase.specs.Marked.{Tried, Turns, TurnMade, Marks, Unmarked};
 
@@ -30,8 +30,8 @@ fn mark_from(
     if done {
         return n;
     }
-    let mut seeds = [0u16; 1024];
-    let mut found = [0u16; 1024];
+    let mut seeds = [0u16; layout::MOST_STEPS];
+    let mut found = [0u16; layout::MOST_STEPS];
     let advance = serving::advance_by_rule(pattern, bead);
     let to = serving::pass_from(
         pattern,

@@ -20,10 +20,9 @@ use Rattle.necklace.specs.Necklace.{Pattern}
 use Rattle.necklace.specs.Compute.{row, prefixes, pivots, before, holds?}
 use Rattle.necklace.proofs.Prefixes.{before-holds, before-le}
 use Rattle.necklace.proofs.RowMeaning.{prefixes-below, row-first, row-length}
-use Rattle.log_line.specs.Limits.{bufferLength as logLength}
+use Rattle.layout.specs.Layout.{logLength, patternLength}
 use Rattle.log_buffer.specs.Meaning.{logOf, stepsIn}
 use Rattle.log_buffer.proofs.Sound.{sound-iff}
-use Rattle.pattern_line.specs.Limits.{bufferLength as patternLength}
 use Rattle.pattern_buffer.specs.Meaning.{labelsIn}
 use Rattle.pattern_buffer.proofs.Meaning.{pattern-well-formed}
 use Rattle.judging.specs.Judge.{patternIn, logIn, accepts, resultAfter}

@@ -19,7 +19,7 @@ use Rattle.log_links.proofs.LinkLaws.{laid}
 use Rattle.prefix_phase.proofs.MarkLaws.{all-beads}
 use Rattle.prefix_phase.specs.Marked.{Tried, Unmarked, Marks}
 use Rattle.walk_places.specs.Walked.{WalkedBack}
-use Rattle.results.specs.Limits.{resultLength, rowLength}
+use Rattle.layout.specs.Layout.{resultLength, rowLength}
 use Rattle.results.specs.Result.{rowsUpTo, wholeUpTo, rowsOf}
 use Rattle.results.specs.Arrays.{resultFrom, Sized}
 use Rattle.results.proofs.Rows.{counted, rows-are}

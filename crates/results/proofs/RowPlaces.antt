@@ -12,7 +12,7 @@ use Rattle.necklace.specs.Dag.{Dag}
 use Rattle.necklace.specs.Necklace.{Pattern}
 use Rattle.necklace.specs.Compute.{row}
 use Rattle.necklace.proofs.RowMeaning.{row-length}
-use Rattle.results.specs.Limits.{rowLength}
+use Rattle.layout.specs.Layout.{rowLength}
 use Rattle.results.specs.Result.{rowsUpTo, rowIn}
 
 rows-next : (G : Dag) (P : Pattern) (v : ℕ) → rowsUpTo G P (suc v) ≡ rowsUpTo G P v ++ row G P v

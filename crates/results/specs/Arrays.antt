@@ -7,7 +7,7 @@ use Rattle.log_buffer.specs.Meaning.{stepsIn}
 use Rattle.pattern_buffer.specs.Meaning.{beadsIn}
 use Rattle.prefix_phase.specs.Marked.{Tried}
 use Rattle.rows.specs.Rows.{rowsFrom}
-use Rattle.results.specs.Limits.{resultLength, rowLength}
+use Rattle.layout.specs.Layout.{resultLength, rowLength}
 
 abbrev pub resultFrom : ℕ → List ℕ → List ℕ → ℕ → List ℕ → List ℕ
 resultFrom beads prefixes pivots n result =

@@ -6,7 +6,7 @@ use lib.ListN.{take, drop, replicate}
 use Rattle.necklace.specs.Dag.{Dag}
 use Rattle.necklace.specs.Necklace.{Pattern}
 use Rattle.necklace.specs.Compute.{holds?, row}
-use Rattle.results.specs.Limits.{resultLength, rowLength}
+use Rattle.layout.specs.Layout.{resultLength, rowLength}
 
 -- The rows of the vertices below n, one after the other.
 unfoldable pub rowsUpTo : Dag → Pattern → ℕ → List ℕ

@@ -50,7 +50,7 @@ fn fill_all(
     ensures { λ _. ⌜ WalkedBack (logOf (now (log .entry))) (patternOf (now (pattern .entry))) (stepsIn (now (log .entry))) (now (pivots .exit)) ⌝ }
 {
     let mut hopes = [0u16; 8];
-    let mut last = [0u16; 1024];
+    let mut last = [0u16; layout::MOST_STEPS];
     hope::fill_hopes(pattern, &mut hopes);
     log_links::last_links(log, &mut last);
     fill_arrays(pattern, log, &hopes, &last, prefixes, pivots, work);
@@ -63,7 +63,7 @@ fn write_result(beads: u16, n: usize, prefixes: &[u16], pivots: &[u16], result: 
     ensures { λ _. ⌜ now (result .exit) ≡ resultFrom beads (now (prefixes .entry)) (now (pivots .entry)) n (now (result .entry)) ⌝ }
 {
     rows::write_rows(result, beads, n, prefixes, pivots);
-    lists::clear(result, 10 * n, 10240);
+    lists::clear(result, layout::ROW_LENGTH * n, layout::RESULT_LENGTH);
 }
 
 // The result, and the number of steps at which the whole pattern holds.
@@ -91,8 +91,8 @@ fn judge_arrays(
     ensures { λ r. ⌜ r ≡ wholeUpTo (logOf (now (log .entry))) (patternOf (now (pattern .entry))) (logOf (now (log .entry)) .size) ⌝ }
     ensures { λ _. ⌜ now (result .exit) ≡ rowsOf (logOf (now (log .entry))) (patternOf (now (pattern .entry))) ++ drop 10240 (now (result .entry)) ⌝ }
 {
-    let mut prefixes = [0u16; 1024];
-    let mut pivots = [0u16; 9216];
+    let mut prefixes = [0u16; layout::MOST_STEPS];
+    let mut pivots = [0u16; layout::PIVOTS_LENGTH];
     fill_all(pattern, log, &mut prefixes, &mut pivots, work);
     finish(beads, n, &prefixes, &pivots, result)
 }

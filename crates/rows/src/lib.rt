@@ -21,7 +21,7 @@ fn pivot_or_zero(beads: usize, whole: bool, k: usize, step: usize, pivots: &[u16
 {
     if whole {
         if k <= beads {
-            return pivots[1024 * k + step];
+            return pivots[layout::MOST_STEPS * k + step];
         }
         return 0;
     }
@@ -50,8 +50,8 @@ pub fn write_rows(result: &mut [u16], beads: u16, n: usize, prefixes: &[u16], pi
 {
     let mut v: usize = 0;
     while v < n {
-        let from = 10 * v;
-        let to = from + 10;
+        let from = layout::ROW_LENGTH * v;
+        let to = from + layout::ROW_LENGTH;
         write_row(&mut result[from..to], beads, v, prefixes[v], pivots);
         v += 1;
     }

@@ -17,12 +17,12 @@ use Rattle.necklace.specs.Dag.{Dag, WellFormed}
 use Rattle.necklace.specs.Automaton.{Automaton}
 use Rattle.necklace.specs.Necklace.{Modality, SOME, ALL, Pattern}
 use Rattle.necklace.specs.Compute.{holds?, serves?, some?, satisfies?, satisfiesBy?}
-use Rattle.pattern_line.specs.Limits.{ruleAt}
+use Rattle.layout.specs.Layout.{ruleAt}
 use Rattle.pattern_buffer.specs.Meaning.{labelsIn, automatonOf, patternOf}
 use Rattle.log_buffer.specs.Meaning.{stepsIn, logOf}
 use Rattle.log_links.specs.Links.{LastTo}
-use Rattle.forward.specs.Forward.{reaches?}
-use Rattle.forward.proofs.Agrees.{reaches-some, reaches-one, reaches-from}
+use Rattle.necklace.specs.Forward.{reaches?}
+use Rattle.necklace.proofs.Agrees.{reaches-some, reaches-one, reaches-from}
 use Rattle.entering.proofs.EnterLaws.{next-within}
 use Rattle.hope.specs.Hope.{HopefulSet}
 use Rattle.pass_steps.specs.PassSteps.{startsIn, beadReaches, laneReaches}

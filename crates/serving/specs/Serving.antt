@@ -10,7 +10,7 @@ use Rattle.sets.specs.Sets.{overlaps, someBelow}
 use Rattle.necklace.specs.Dag.{Dag}
 use Rattle.necklace.specs.Necklace.{Pattern}
 use Rattle.necklace.specs.Compute.{serves?}
-use Rattle.pattern_line.specs.Limits.{ruleAt}
+use Rattle.layout.specs.Layout.{ruleAt}
 use Rattle.pattern_buffer.specs.Meaning.{beadsIn, patternOf}
 use Rattle.log_buffer.specs.Meaning.{stepsIn, logOf}
 use Rattle.log_links.specs.Links.{LastTo}

@@ -1,7 +1,7 @@
 // Which candidates serve as the pivot before which steps: SOME and ALL are decided bead by bead, by a pass from the candidates.
 ghost use Prim.Native.Nat.{_<_, _≤_};
 ghost use lib.ListN.{length};
-ghost use Rattle.lanes.specs.Lanes.{workLength};
+ghost use Rattle.layout.specs.Layout.{workLength};
 ghost use Rattle.serving.specs.Serving.{Asked, AdvanceFor, FoundIn, ServedIf};
 
 // By how much the lane advances from a starting step to the next. ALL asks each by itself, so each has a lane of its own; SOME asks for some
@@ -10,7 +10,7 @@ pub fn advance_by_rule(pattern: &[u16], bead: usize) -> u16
     requires { ⌜ (bead < 8) × (10 ≤ length (now pattern)) ⌝ }
     ensures { λ r. ⌜ AdvanceFor (now (pattern .entry)) bead r ⌝ }
 {
-    if pattern[2 + bead] == 2 {
+    if pattern[layout::RULES + bead] == 2 {
         return 1;
     }
     0

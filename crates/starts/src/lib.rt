@@ -4,8 +4,7 @@ ghost use mathlib.Core.Bool.{cond};
 ghost use Prim.Native.Nat.{_+_, _<_, _≤_};
 ghost use lib.ListN.{length, set};
 ghost use Rattle.sets.specs.Sets.{singleton};
-ghost use Rattle.pattern_line.specs.Limits.{mostBeads};
-ghost use Rattle.log_line.specs.Limits.{mostSteps};
+ghost use Rattle.layout.specs.Layout.{mostBeads, mostSteps};
 ghost use Rattle.starts.specs.Starts.{prefixAt, StartsOf, Looked, Extended, LanesBelow, ApartIf};
 
 // The starting steps of a pass: they lie from `first` on and below `until` (none if `until` is not above `first`); every step from the one

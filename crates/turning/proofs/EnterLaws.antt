@@ -11,7 +11,7 @@ use Rattle.sets.specs.Sets.{member, setOf, union, someBelow}
 use Rattle.sets.proofs.Bits.{member-empty}
 use Rattle.sets.proofs.Laws.{member-setOf, member-union, someBelow-none, someBelow-more}
 use Rattle.necklace.specs.Automaton.{Automaton}
-use Rattle.forward.specs.Forward.{reached}
+use Rattle.necklace.specs.Forward.{reached}
 use Rattle.entering.specs.Entering.{spreadOver, Grown}
 use Rattle.turning.specs.Turning.{EnteredTo}
 

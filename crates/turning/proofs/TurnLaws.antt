@@ -17,7 +17,7 @@ use Rattle.log_buffer.specs.Meaning.{stepsIn, linksInto, logOf}
 use Rattle.log_buffer.proofs.Meaning.{labels-are, preds-are}
 use Rattle.log_links.specs.Links.{Laid, BareIf}
 use Rattle.log_links.proofs.LinkLaws.{label-in}
-use Rattle.forward.specs.Forward.{reached, arrives}
+use Rattle.necklace.specs.Forward.{reached, arrives}
 use Rattle.lanes.specs.Lanes.{workAt, laneIn, Gathered, PutTo, BegunAt}
 use Rattle.turning.specs.Turning.{EnteredTo, Arrived, Turned}
 

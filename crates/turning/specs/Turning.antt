@@ -8,7 +8,7 @@ use lib.ListN.{getD}
 use Rattle.sets.specs.Sets.{member, someBelow}
 use Rattle.necklace.specs.Dag.{Dag}
 use Rattle.necklace.specs.Automaton.{Automaton}
-use Rattle.forward.specs.Forward.{reached, arrives}
+use Rattle.necklace.specs.Forward.{reached, arrives}
 use Rattle.lanes.specs.Lanes.{workAt, laneIn}
 
 -- For each state the lanes that entering a step with these labels brings there, from the states below n.

@@ -2,11 +2,10 @@
 ghost use Prim.Native.Nat.{_+_, _<_, _≤_};
 ghost use lib.ListN.{length};
 ghost use Rattle.sets.specs.Sets.{members};
-ghost use Rattle.pattern_line.specs.Limits.{mostBeads, bufferLength as patternLength};
+ghost use Rattle.layout.specs.Layout.{mostBeads, patternLength, workLength};
 ghost use Rattle.pattern_buffer.specs.Meaning.{automatonOf};
 ghost use Rattle.log_buffer.specs.Meaning.{stepsIn, logOf};
 ghost use Rattle.log_links.specs.Links.{Laid};
-ghost use Rattle.lanes.specs.Lanes.{workLength};
 ghost use Rattle.turning.specs.Turning.{EnteredTo, Arrived, Turned};
 
 // Adds the lanes that entering a step with these labels brings on from the state q. Where no lane is in it, nothing is looked up.
@@ -30,7 +29,7 @@ fn enter_all(pattern: &[u16], bead: usize, labels: u16, here: &[u16]) -> [u16; 1
 {
     let mut next = [0u16; 16];
     let mut q = 0;
-    while q < 16 {
+    while q < layout::MOST_STATES {
         enter_from(pattern, bead, labels, q, here, &mut next);
         q += 1;
     }
@@ -55,7 +54,7 @@ fn arriving(
     if bare {
         return here;
     }
-    enter_all(pattern, bead, log[1 + x], &here)
+    enter_all(pattern, bead, log[layout::LABEL_SETS + x], &here)
 }
 
 // The turn of the step x in the passes: the lanes that arrive, and those that begin there.

@@ -2,11 +2,11 @@
 ghost use mathlib.Core.Path.{_≡_};
 ghost use Prim.Native.Nat.{_≤_};
 ghost use lib.ListN.{length, getD};
+ghost use Rattle.layout.specs.Layout.{workLength};
 ghost use Rattle.log_buffer.specs.Meaning.{logOf, stepsIn};
 ghost use Rattle.pattern_buffer.specs.Meaning.{patternOf};
 ghost use Rattle.log_links.specs.Links.{LastTo};
 ghost use Rattle.hope.specs.Hope.{Hopes};
-ghost use Rattle.lanes.specs.Lanes.{workLength};
 ghost use Rattle.prefix_phase.specs.Marked.{Tried, Marks};
 ghost use Rattle.walk_places.specs.Walked.{WalkedBack, Walked};
 ghost use Rattle.walk_turn.specs.Turns.{WalkBy};
@@ -83,8 +83,8 @@ pub fn walk_back(
     requires { ⌜ (8 ≤ length (now hopes)) × (1024 ≤ length (now last)) × (1024 ≤ length (now prefixes)) × (length (now pivots) ≡ 9216) × (length (now work) ≡ workLength) ⌝ }
     ensures { λ _. ⌜ WalkedBack (logOf (now (log .entry))) (patternOf (now (pattern .entry))) (stepsIn (now (log .entry))) (now (pivots .exit)) ⌝ }
 {
-    let mut seeds = [0u16; 1024];
-    let mut found = [0u16; 1024];
+    let mut seeds = [0u16; layout::MOST_STEPS];
+    let mut found = [0u16; layout::MOST_STEPS];
     let beads = lists::wide(pattern[1]);
     let n = lists::wide(log[0]);
     walk_places::start_walk(pattern, log, beads, n, prefixes, pivots);

@@ -15,8 +15,8 @@ fn first_place(beads: usize, n: usize, prefixes: &[u16], i: usize) -> u16
     requires { ⌜ (1 ≤ beads) × (beads ≤ 8) × (n ≤ 1024) × (1024 ≤ length (now prefixes)) ⌝ }
     ensures { λ r. ⌜ r ≡ firstPlace beads n (now (prefixes .entry)) i ⌝ }
 {
-    let v = i % 1024;
-    if i / 1024 < beads {
+    let v = i % layout::MOST_STEPS;
+    if i / layout::MOST_STEPS < beads {
         let whole = rows::is_whole(beads as u16, prefixes[v]);
         if whole {
             return n as u16;
@@ -31,7 +31,7 @@ fn begin_walk(beads: usize, n: usize, prefixes: &[u16], pivots: &mut [u16])
     requires { ⌜ (1 ≤ beads) × (beads ≤ 8) × (n ≤ 1024) × (1024 ≤ length (now prefixes)) × (9216 ≤ length (now pivots)) ⌝ }
     ensures { λ _. ⌜ Filled (firstPlace beads n (now (prefixes .entry))) (1024 * beads + n) (now (pivots .exit)) ⌝ }
 {
-    let places = 1024 * beads + n;
+    let places = layout::MOST_STEPS * beads + n;
     let mut i = 0;
     while i < places {
         pivots[i] = first_place(beads, n, prefixes, i);
@@ -46,7 +46,7 @@ pub fn none_search(k: usize, from: usize, n: usize, pivots: &[u16]) -> bool
 {
     let mut v = n;
     while from < v {
-        let place = lists::wide(pivots[1024 * k + (v - 1)]);
+        let place = lists::wide(pivots[layout::MOST_STEPS * k + (v - 1)]);
         if place == n {
             return false;
         }
@@ -60,7 +60,7 @@ fn pivot_after(beads: usize, step: usize, pivots: &[u16]) -> usize
     requires { ⌜ (beads ≤ 8) × (step < 1024) × (9216 ≤ length (now pivots)) ⌝ }
     ensures { λ r. ⌜ r ≡ getD (now (pivots .entry)) (pivotAt beads step) 0 ⌝ }
 {
-    lists::wide(pivots[1024 * beads + step])
+    lists::wide(pivots[layout::MOST_STEPS * beads + step])
 }
 
 // The pivot of the step v picked last.

@@ -2,7 +2,7 @@
 ghost use Prim.Native.Nat.{_-_, _+_, _<_, _≤_};
 ghost use mathlib.Core.Path.{_≡_};
 ghost use lib.ListN.{length};
-ghost use Rattle.lanes.specs.Lanes.{workLength};
+ghost use Rattle.layout.specs.Layout.{workLength};
 ghost use Rattle.walk_places.specs.Search.{LastsIn};
 ghost use Rattle.walk_turn.specs.Turns.{TurnIn, Due, TurnReady, AimOf, Begun, PutDown, Next};
 
@@ -134,7 +134,7 @@ fn put(turn: Turn, aim: Aim, u: usize, pivots: &mut [u16])
     ensures { λ _. ⌜ PutDown turn aim u (now (pivots .entry)) (now (pivots .exit)) ⌝ }
 {
     if u < aim.end {
-        pivots[1024 * (turn.left - 1) + aim.step] = u as u16;
+        pivots[layout::MOST_STEPS * (turn.left - 1) + aim.step] = u as u16;
     }
 }
 

@@ -7,14 +7,14 @@ use mathlib.Core.Path.{_≡_}
 use mathlib.Core.Bool.{true}
 use lib.ListN.{length}
 use Rattle.sets.specs.Sets.{allBelow}
-use Rattle.log_line.specs.Limits.{bufferLength, mostSteps, mostLinks, beginAt}
+use Rattle.layout.specs.Layout.{logLength, mostSteps, mostLinks, beginAt}
 use Rattle.log_buffer.specs.Meaning.{stepsIn}
 use Rattle.log_buffer.specs.Valid.{beginOk, linksOk}
 use Rattle.log_buffer.proofs.all_links.Statement.{statement}
 use Rattle.log_buffer.proofs.all_links.Tie as tie
 
 abbrev Inv-loop : tie.InvT-loop
-Inv-loop buffer v₀ v = (v ≤ 1024) × (bufferLength ≤ length buffer) × (stepsIn buffer ≤ mostSteps) × (allBelow 1024 (beginOk buffer) ≡ true)
+Inv-loop buffer v₀ v = (v ≤ 1024) × (logLength ≤ length buffer) × (stepsIn buffer ≤ mostSteps) × (allBelow 1024 (beginOk buffer) ≡ true)
     × (at buffer (beginAt (stepsIn buffer)) ≤ mostLinks) × (allBelow v (linksOk buffer) ≡ true)
 
 abbrev μ-loop : tie.MeasureT-loop

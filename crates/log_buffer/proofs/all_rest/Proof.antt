@@ -7,14 +7,14 @@ use mathlib.Core.Path.{_≡_}
 use mathlib.Core.Bool.{true}
 use lib.ListN.{length}
 use Rattle.sets.specs.Sets.{allBelow}
-use Rattle.log_line.specs.Limits.{bufferLength, beginAt}
+use Rattle.layout.specs.Layout.{logLength, beginAt}
 use Rattle.log_buffer.specs.Meaning.{stepsIn}
 use Rattle.log_buffer.specs.Valid.{restOk}
 use Rattle.log_buffer.proofs.all_rest.Statement.{statement}
 use Rattle.log_buffer.proofs.all_rest.Tie as tie
 
 abbrev Inv-loop : tie.InvT-loop
-Inv-loop buffer i₀ i = (i ≤ 4096) × (at buffer (beginAt (stepsIn buffer)) ≤ i) × (bufferLength ≤ length buffer) × (allBelow i (restOk buffer) ≡ true)
+Inv-loop buffer i₀ i = (i ≤ 4096) × (at buffer (beginAt (stepsIn buffer)) ≤ i) × (logLength ≤ length buffer) × (allBelow i (restOk buffer) ≡ true)
 
 abbrev μ-loop : tie.MeasureT-loop
 μ-loop buffer i₀ i = 4096 - i

@@ -7,14 +7,14 @@ use mathlib.Core.Path.{_≡_}
 use mathlib.Core.Bool.{true}
 use lib.ListN.{length}
 use Rattle.sets.specs.Sets.{allBelow}
-use Rattle.log_line.specs.Limits.{bufferLength, mostLinks, beginAt}
+use Rattle.layout.specs.Layout.{logLength, mostLinks, beginAt}
 use Rattle.log_buffer.specs.Meaning.{stepsIn}
 use Rattle.log_buffer.proofs.links_ok.Statement.{statement}
 use Rattle.log_buffer.proofs.links_ok.Tie as tie
 
 abbrev Inv-loop : tie.InvT-loop
 Inv-loop buffer v begin end i₀ i = (begin ≤ i) × (i - begin ≤ end - begin) × (begin ≡ at buffer (beginAt v)) × (end ≡ at buffer (beginAt (v + 1)))
-    × (v < stepsIn buffer) × (v < 1024) × (end ≤ mostLinks) × (bufferLength ≤ length buffer) × (allBelow (i - begin) (links buffer v) ≡ true)
+    × (v < stepsIn buffer) × (v < 1024) × (end ≤ mostLinks) × (logLength ≤ length buffer) × (allBelow (i - begin) (links buffer v) ≡ true)
 
 abbrev μ-loop : tie.MeasureT-loop
 μ-loop buffer v begin end i₀ i = end - i

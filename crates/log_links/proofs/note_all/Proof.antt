@@ -3,7 +3,7 @@ use Rattle.log_links.proofs.LastLaws.{kit}
 use Prim.Native.Nat.{_≤_, _-_}
 use mathlib.Core.Path.{_≡_}
 use lib.ListN.{length}
-use Rattle.log_line.specs.Limits.{mostSteps}
+use Rattle.layout.specs.Layout.{mostSteps}
 use Rattle.log_links.specs.Links.{LastTo}
 use borrow.Author.Needs.{needs}
 use Rattle.log_links.proofs.note_all.Statement.{statement}

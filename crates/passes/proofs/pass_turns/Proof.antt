@@ -1,7 +1,7 @@
 -- `pass_turns` keeps: the lanes of the steps so far, what they reach, and how far to go.
+use Rattle.layout.specs.Layout.{workLength}
 use Rattle.passes.proofs.PassLaws.{held-none, bounded-none, until-small, pass-bead, pass-laid, pass-well-formed, reach-inside, reach-small, pass-end}
 use Rattle.log_buffer.specs.Meaning.{stepsIn}
-use Rattle.lanes.specs.Lanes.{workLength}
 use Prim.Native.Nat.{_≤_, _<_, _-_}
 use mathlib.Core.Path.{_≡_}
 use lib.ListN.{length}

@@ -1,11 +1,11 @@
 -- `mark_turns` goes through the turns, and those before are marked.
+use Rattle.layout.specs.Layout.{workLength}
 use Rattle.prefix_phase.proofs.MarkLaws.{turn-kit as kit, next-kit, turn-asked, turn-marked, none-marked}
 use Rattle.log_buffer.specs.Meaning.{logOf}
 use Rattle.pattern_buffer.specs.Meaning.{patternOf}
 use Prim.Native.Nat.{_≤_, _-_}
 use mathlib.Core.Path.{_≡_}
 use lib.ListN.{length}
-use Rattle.lanes.specs.Lanes.{workLength}
 use Rattle.prefix_phase.specs.Marked.{MarkedUpTo}
 use borrow.Author.Needs.{needs}
 use Rattle.prefix_phase.proofs.mark_turns.Statement.{statement}

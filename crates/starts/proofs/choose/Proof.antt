@@ -4,7 +4,7 @@ use Rattle.starts.proofs.LaneLaws.{lanes-none, starts-full, starts-apar
 use Prim.Native.Nat.{_≤_, _-_}
 use mathlib.Core.Path.{_≡_}
 use lib.ListN.{length}
-use Rattle.log_line.specs.Limits.{mostSteps}
+use Rattle.layout.specs.Layout.{mostSteps}
 use Rattle.starts.specs.Starts.{prefixAt, Looked, LanesBelow}
 use borrow.Author.Needs.{needs}
 use Rattle.starts.proofs.choose.Statement.{statement}

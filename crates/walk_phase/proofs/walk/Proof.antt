@@ -1,11 +1,11 @@
 -- `walk` goes through the turns, and in a turn through the candidates, to the first that serves.
+use Rattle.layout.specs.Layout.{workLength}
 use Rattle.walk_phase.proofs.WalkLaws.{walks-first, walks-due, walks-done}
 use Rattle.walk_turn.proofs.TurnLaws.{begun-low, begun-most, begun-inside, begun-more, begun-up, begun-step, begun-in, walks-on, seek-none, seek-on, stop-serving, stop-end, next-less}
 use lib.ListN.{length}
 use mathlib.Core.Path.{_≡_}
 use mathlib.Core.Logic.{⊎-elim}
 use Prim.Native.Nat.{_≤_, _<_, _-_}
-use Rattle.lanes.specs.Lanes.{workLength}
 use Rattle.walk_turn.specs.Turns.{WalkBy, Walking, Begun, NoneServe, turnsLeft}
 use borrow.Author.Needs.{needs}
 use Rattle.walk_phase.proofs.walk.Statement.{statement}

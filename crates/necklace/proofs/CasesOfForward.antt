@@ -4,12 +4,12 @@ use mathlib.Core.Path.{_≡_, refl}
 use mathlib.Core.Bool.{Bool, true, false}
 use mathlib.Core.List.{List, [], _∷_, map}
 use Rattle.sets.specs.Sets.{setOf, someBelow}
 use Rattle.necklace.specs.Dag.{Dag}
 use Rattle.necklace.specs.Necklace.{SOME, ALL}
 use Rattle.necklace.specs.Compute.{elem}
 use Rattle.necklace.specs.Listed.{listedDag}
 use Rattle.necklace.proofs.Cases.{listing, second-automaton, vented}
-use Rattle.forward.specs.Forward.{ahead, forward, reaches?}
+use Rattle.necklace.specs.Forward.{ahead, forward, reaches?}
 
 -- Edges 0-1, 0-2, 1-2, 1-3, 2-4, 3-4, 3-5, 1-6; the label vent on vertex 2 moves the automaton from state 0 to state 1.
 abbrev pub dag : Dag

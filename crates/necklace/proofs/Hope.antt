@@ -9,16 +9,16 @@ use lib.Dec.{T, eqb, ltb, eqb→eq, eqb-refl, ltb→lt, lt→ltb, T-not, not-T}
 use Rattle.sets.specs.Sets.{_∈_, someBelow, allBelow}
 use Rattle.sets.proofs.Truth.{or-cases, and-i, and-l, and-r, false-no}
 use Rattle.sets.proofs.Laws.{someBelow-out, someBelow-in}
 use Rattle.necklace.specs.Dag.{Dag, WellFormed}
 use Rattle.necklace.specs.Automaton.{Automaton, OneNext}
 use Rattle.necklace.specs.Necklace.{Modality, SOME, ALL}
 use Rattle.necklace.specs.Compute.{elem}
 use Rattle.necklace.specs.Listed.{listedDag, listedAutomaton}
 use Rattle.necklace.specs.Tests.{oneNext?}
 use Rattle.necklace.proofs.Lists.{someOf-out, someOf-in, elem-out, elem-in}
 use Rattle.necklace.proofs.Tests.{oneNext-agrees}
-use Rattle.forward.specs.Forward.{reached, arrives, ahead, forward, among?, reaches?, Hopeful}
-use Rattle.forward.proofs.Turns.{forward-turn, forward-step, arrives-out}
+use Rattle.necklace.specs.Forward.{reached, arrives, ahead, forward, among?, reaches?, Hopeful}
+use Rattle.necklace.proofs.Forward.{forward-turn, forward-step, arrives-out}
 
 -- a state from which a hopeful one is reached is hopeful
 hope-back : (A : Automaton) (H : ℕ → Bool) → Hopeful A H → (ls : List ℕ) → ((a : ℕ) → a ∈ ls → a < 16) → (q r : ℕ) → q < 16 → T (reached A ls q r) → T (H r) → T (H q)

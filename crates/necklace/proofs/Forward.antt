@@ -10,11 +10,11 @@ use Rattle.sets.specs.Sets.{_∈_}
 use Rattle.sets.proofs.Agree.{someBelow-ext}
 use Rattle.sets.proofs.Truth.{or-l, or-r, and-i, and-l, and-r, no-false, false-no}
 use Rattle.sets.proofs.Laws.{someBelow-out, someBelow-in}
 use Rattle.necklace.specs.Dag.{Dag, WellFormed}
 use Rattle.necklace.specs.Automaton.{Automaton}
 use Rattle.necklace.specs.Compute.{someOf}
 use Rattle.necklace.proofs.Lists.{someOf-out, someOf-in, someOf-ext}
-use Rattle.forward.specs.Forward.{reached, arrives, ahead, forward}
+use Rattle.necklace.specs.Forward.{reached, arrives, ahead, forward}
 
 -- ---- what arrives at a vertex
 

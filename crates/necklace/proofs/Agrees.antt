@@ -14,15 +14,15 @@ use Rattle.sets.specs.Sets.{_∈_, someBelow}
 use Rattle.sets.proofs.Agree.{someBelow-ext}
 use Rattle.sets.proofs.Truth.{same, or-cases, and-i, and-l, and-r, decide, no-false, false-no}
 use Rattle.sets.proofs.Laws.{someBelow-out, someBelow-in}
 use Rattle.necklace.specs.Dag.{Dag, WellFormed, DagPath, here, edge, Reading, done, silent, letter}
 use Rattle.necklace.specs.Automaton.{Automaton, Run, stay, move, exchange}
 use Rattle.necklace.specs.Necklace.{Modality, SOME, ALL}
 use Rattle.necklace.specs.Compute.{someOf, elem, backward, some?, all?, satisfiesBy?}
 use Rattle.necklace.proofs.Lists.{someOf-out, someOf-in, elem-out, elem-in}
 use Rattle.necklace.proofs.Paths.{path-le}
 use Rattle.necklace.proofs.Backward.{Leads, backward-sound, backward-complete, leads-bare, leads-letter}
-use Rattle.forward.specs.Forward.{reached, arrives, ahead, forward, EndsIn, reaches?}
-use Rattle.forward.proofs.Turns.{arrives-at, arrives-out, forward-starts, forward-step, forward-below}
+use Rattle.necklace.specs.Forward.{reached, arrives, ahead, forward, EndsIn, reaches?}
+use Rattle.necklace.proofs.Forward.{arrives-at, arrives-out, forward-starts, forward-step, forward-below}
 
 -- ---- what a forward set says
 

@@ -1,4 +1,0 @@
-pub mod Cases
-pub mod Turns
-pub mod Agrees
-pub mod Hope

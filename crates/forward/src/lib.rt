@@ -1,1 +1,0 @@
-// The theory of the forward pass has no code.
