@@ -1,5 +1,7 @@
 // Demand 3 on random patterns of one bead and pairs of logs: additions keep SOME, and keep ALL from holding. It prints what was tried
 // and how much of each kind; `names.txt` has the names of the counts.
+#![tactic(auto)]
+
 mod added;
 
 fn main() {

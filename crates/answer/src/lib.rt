@@ -1,4 +1,6 @@
 // The answer that every call of an outsider gets.
+#![tactic(auto)]
+
 ghost use Rattle.std.specs.Prelude.{◌≡◌};
 ghost use Rattle.answer.specs.Answers.{accepted_with, refused_at, refused_in, code_of};
 

@@ -1,5 +1,7 @@
 // Logs made from a log as demand 3 allows, and one way that it does not. A buffer is all zeros before a log is made in it. Each
 // function that draws takes the generator by value and answers it as it is after its draws.
+#![tactic(auto)]
+
 mod additions;
 mod links;
 mod past;

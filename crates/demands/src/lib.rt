@@ -1,1 +1,2 @@
 // Theorems about the judge's calls have no code.
+#![tactic(auto)]

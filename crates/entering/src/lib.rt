@@ -1,4 +1,6 @@
 // Entering a step: the states to which its labels lead from a state of a bead.
+#![tactic(auto)]
+
 ghost use Rattle.std.specs.Prelude.{◌≡◌, cond, ◌+◌, ◌<◌, ◌≤◌, length};
 ghost use Rattle.lists.specs.Filled.{Filled};
 ghost use Rattle.sets.specs.Sets.{set_of, singleton, members};

@@ -1,4 +1,6 @@
 // The fields of a line: every separator ends one, so n separators give n + 1 fields, and a field may be empty.
+#![tactic(auto)]
+
 ghost use Rattle.std.specs.Prelude.{◌≡◌, length, set, ◌<◌, ◌+◌};
 ghost use Rattle.text.specs.Split.{split, first_part};
 ghost use Rattle.fields.specs.Fields.{field_of, same_bytes, Marked};

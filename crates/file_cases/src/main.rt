@@ -1,5 +1,7 @@
 // The body of `judge` on the files of several folders, a line of `cases.txt` each: the folder, a tab, what is tried. What it tries is
 // printed, then what the program would print.
+#![tactic(auto)]
+
 use trial::append_bytes;
 
 fn main() {

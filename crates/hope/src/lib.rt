@@ -1,4 +1,6 @@
 // Hopeful states of a bead: those from which an accepting state can be reached.
+#![tactic(auto)]
+
 ghost use Rattle.std.specs.Prelude.{◌≡◌, ◌<◌, ◌≤◌, length};
 ghost use Rattle.lists.specs.Filled.{Filled};
 ghost use Rattle.sets.specs.Sets.{set_of};

@@ -1,4 +1,6 @@
 // Judges `log.txt` by `pattern.txt`, both in the working directory, and prints the rows or the refusal.
+#![tactic(auto)]
+
 fn main() {
     let mut pattern_text = [0; 16385];
     let mut log_text = [0; 65536];

@@ -6,7 +6,7 @@ pub fn read_pattern(text: &[u8], pattern: &mut [u16]) -> Answer {
 }
 
 pub fn read_log(text: &[u8], labels: u16, log: &mut [u16]) -> Answer {
-    log::read_log(text, labels, log)
+    log_reader::read_log(text, labels, log)
 }
 
 pub fn judge(pattern: &[u16], log: &[u16], res: &mut [u16], work: &mut [u16]) -> Answer {

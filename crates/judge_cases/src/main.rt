@@ -6,6 +6,8 @@
 // handed in place of the pattern's; `p` and `l`: a place of the pattern or log buffer that is set after reading. A case prints whose
 // answer it is and what the calls left. The buffers have six numbers more than the format uses, and each number is a mark before the
 // first call.
+#![tactic(auto)]
+
 use answer::Answer;
 
 mod calls;

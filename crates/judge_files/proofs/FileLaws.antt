@@ -5,7 +5,7 @@ use mathlib.Core.List.{List}
 use native.Mathlib.Omega.{arith}
 use lib.ListN.{length, get_or, take, get_or-eq_default}
 use Rattle.answer.specs.declared.Answer.{Answer}
-use Rattle.log.specs.Answer.{log_answer, log_after}
+use Rattle.log_reader.specs.Answer.{log_answer, log_after}
 use Rattle.judging.specs.Judge.{judge_answer, result_after, work_after}
 use Rattle.judge_files.specs.Files.{PatternRead, LogRead, LogJudged, log_refused, log_judged, Run, pattern_refused, pattern_read}
 

@@ -16,7 +16,7 @@ use Rattle.layout.specs.Layout.{most_pattern_text, most_log_text}
 use Rattle.pattern_store.specs.Format.{pattern_text}
 use Rattle.log_line.specs.Format.{log_text}
 use Rattle.pattern.specs.Answer.{host_faults as pattern_faults, answer_of, pattern_answer}
-use Rattle.log.specs.Answer.{host_faults as log_faults, text_answer, log_answer}
+use Rattle.log_reader.specs.Answer.{host_faults as log_faults, text_answer, log_answer}
 use Rattle.judge_files.specs.Files.{PatternRead, LogRead}
 
 -- A text that fills its buffer has a bad size.

@@ -5,7 +5,7 @@ use Rattle.std.specs.Prelude.{ℕ, suc, ◌≤◌, List, ◌≡◌, length, get_
 use Rattle.answer.specs.declared.Answer.{Answer}
 use Rattle.layout.specs.Layout.{most_pattern_text, most_log_text}
 use Rattle.pattern.specs.Answer.{pattern_answer, pattern_after}
-use Rattle.log.specs.Answer.{log_answer, log_after}
+use Rattle.log_reader.specs.Answer.{log_answer, log_after}
 use Rattle.judging.specs.Judge.{judge_answer, result_after, work_after}
 
 -- The pattern's text was read: r is answered, and pattern' is what the pattern buffer holds then.

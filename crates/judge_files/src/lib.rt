@@ -1,4 +1,6 @@
 // The body of the program `judge`: two files in, and all that is to be printed out, as bytes.
+#![tactic(auto)]
+
 ghost use Rattle.std.specs.Prelude.{◌≡◌, get_or};
 ghost use Rattle.pattern_buffer.specs.Meaning.{beads_in};
 ghost use Rattle.log_buffer.specs.Meaning.{steps_in};
@@ -102,7 +104,7 @@ fn read_log_file(name: &[u8], text: &mut [u8], pattern: &[u16], log: &mut [u16])
     ensures { LogRead text.new pattern.now log.old result log.new }
 {
     let n = load(name, text);
-    log::read_log(&text[..n], label_count(pattern), log)
+    log_reader::read_log(&text[..n], label_count(pattern), log)
 }
 
 // How many labels an accepted pattern has.

@@ -1,5 +1,7 @@
 // Random patterns and logs: the judge against one made apart from it (`other_judge`). It prints what was tried and how much of each
 // kind; `names.txt` has the names of the counts.
+#![tactic(auto)]
+
 mod agree;
 
 fn main() {

@@ -1,4 +1,6 @@
 // The judge: fills one row for each step of a log, by a pattern.
+#![tactic(auto)]
+
 ghost use Rattle.std.specs.Prelude.{◌≡◌, ◌≤◌, ◌<◌, length};
 ghost use Rattle.judging.specs.Judge.{judge_answer, result_after, work_after};
 ghost use Rattle.judging.specs.Fit.{fit_answer, fit_result, fit_work};

@@ -1,4 +1,6 @@
 // The lanes that are, at a step, in states of a set.
+#![tactic(auto)]
+
 ghost use Rattle.std.specs.Prelude.{◌≡◌, ◌<◌, ◌≤◌, length};
 ghost use Rattle.lists.specs.Places.{at};
 ghost use Rattle.sets.specs.Sets.{set_of, complement};

@@ -1,4 +1,6 @@
 // The work buffer of sixteen forward passes: for each step and state the set of the lanes, of sixteen, that are in the state there.
+#![tactic(auto)]
+
 ghost use Rattle.std.specs.Prelude.{◌+◌, ◌<◌, ◌≤◌, length, take};
 ghost use Rattle.layout.specs.Layout.{work_length};
 ghost use Rattle.log_buffer.specs.Meaning.{steps_in, links_into};

@@ -1,4 +1,5 @@
 // The numbers of the two formats and of the lent buffers, each under its name. The definitions have the same numbers (`specs/Layout.antt`).
+#![tactic(auto)]
 
 // ---- limits
 

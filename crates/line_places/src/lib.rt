@@ -1,4 +1,6 @@
 // Where in a line, and where in a text: places of fields and of bytes in a line, lines by their number.
+#![tactic(auto)]
+
 ghost use Rattle.std.specs.Prelude.{◌≡◌, ◌-◌};
 ghost use Rattle.text.specs.Split.{split};
 ghost use Rattle.line_places.specs.Place.{place_at, unprintable_place, ended_line, found_line};

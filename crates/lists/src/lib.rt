@@ -1,4 +1,6 @@
 // Buffers of numbers: an element as an index, and stretches written.
+#![tactic(auto)]
+
 ghost use Rattle.std.specs.Prelude.{◌≡◌, ◌++◌, ◌-◌, ◌≤◌, length, take, drop, replicate};
 
 // A number of a buffer as an index.

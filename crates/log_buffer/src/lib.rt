@@ -1,5 +1,7 @@
 // The places and the links of a log buffer: are they those that an accepted log text gives?
 // No number of the buffer is used as a place before it has been looked at.
+#![tactic(auto)]
+
 ghost use Rattle.std.specs.Prelude.{◌≡◌, ◌<◌, ◌≤◌, ◌+◌, true, length};
 ghost use Rattle.lists.specs.Places.{at};
 ghost use Rattle.sets.specs.Sets.{all_below};

@@ -1,4 +1,6 @@
 // The byte of a refused log text: where in the line at fault.
+#![tactic(auto)]
+
 ghost use Rattle.std.specs.Prelude.{◌≡◌, cond, eqb};
 ghost use Rattle.text.specs.Split.{split};
 ghost use Rattle.log_line.specs.Answers.{order_of};

@@ -2,6 +2,8 @@
 //
 // A line of the file has its columns parted by tabs: what is tried, the label count, the text as a script (`script::expand`),
 // and, where it is not the whole buffer, how many numbers of the buffer are lent. The buffer has six numbers more than the format uses.
+#![tactic(auto)]
+
 use answer::Answer;
 
 fn main() {
@@ -53,5 +55,5 @@ fn read_labelled(line: &[u8], text: &[u8], buffer: &mut [u16]) -> Answer {
 // Lends the first numbers of the buffer, all of them where `lent` is 0.
 fn read_front(text: &[u8], labels: u16, buffer: &mut [u16], lent: u16) -> Answer {
     let n = trial::lent(lent, buffer.len());
-    log::read_log(text, labels, &mut buffer[..n])
+    log_reader::read_log(text, labels, &mut buffer[..n])
 }

@@ -1,1 +1,2 @@
 // Theorems about the byte of a refused log text: no code.
+#![tactic(auto)]

@@ -1,4 +1,6 @@
 // A log's text, laid into a buffer as far as it has places: so over a buffer without places the text is only measured.
+#![tactic(auto)]
+
 mod lines;
 
 ghost use Rattle.std.specs.Prelude.{◌≤◌};

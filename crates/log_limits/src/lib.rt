@@ -1,4 +1,6 @@
 // A line below the header: the leftmost field that is over a limit.
+#![tactic(auto)]
+
 ghost use Rattle.std.specs.Prelude.{◌≡◌, not, ◌&&◌, ◌||◌, [], ◌+◌, eqb, ltb, length, get_or};
 ghost use Rattle.text.specs.Split.{split};
 ghost use Rattle.numbers.specs.Listed.{list_of};

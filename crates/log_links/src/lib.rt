@@ -1,4 +1,6 @@
 // The links of a log buffer: where those into a step begin, and the last step to which each step has a link.
+#![tactic(auto)]
+
 ghost use Rattle.std.specs.Prelude.{◌≡◌, ◌+◌, ◌<◌, ◌≤◌, length};
 ghost use Rattle.layout.specs.Layout.{most_steps};
 ghost use Rattle.log_buffer.specs.Meaning.{steps_in};

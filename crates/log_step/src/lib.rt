@@ -1,4 +1,6 @@
 // One line below the header: its values, or the first of its refusals.
+#![tactic(auto)]
+
 ghost use Rattle.std.specs.Prelude.{◌≡◌, not, ◌||◌, ◌+◌, ◌≤◌, ltb, length, get_or, []};
 ghost use Rattle.text.specs.Split.{split};
 ghost use Rattle.fields.specs.Fields.{Marked};

@@ -1,4 +1,6 @@
 // The log buffer, filled step by step.
+#![tactic(auto)]
+
 ghost use Rattle.std.specs.Prelude.{◌≡◌, ◌+◌, ◌≤◌, length};
 ghost use Rattle.log_step.specs.Answers.{step_with, InLimits};
 ghost use Rattle.log_store.specs.Stores.{values_stored, links_stored, StepStored, LineAdded};

@@ -1,5 +1,7 @@
 // Is a buffer one that an accepted log text gives under a label count? The judge asks before it reads a log buffer.
 // The length comes first, then each place in turn; no number of the buffer is used as a place before it has been looked at.
+#![tactic(auto)]
+
 ghost use Rattle.std.specs.Prelude.{◌≡◌, ◌<◌, ◌≤◌, length};
 ghost use Rattle.sets.specs.Sets.{all_below, within};
 ghost use Rattle.layout.specs.Layout.{log_length};

@@ -1,1 +1,2 @@
 // Theorems about the buffers that log texts give: no code.
+#![tactic(auto)]

@@ -1,4 +1,6 @@
 // The lines below the header, one after the other, into a buffer of this function's own: a refusal changes nothing.
+#![tactic(auto)]
+
 ghost use Rattle.std.specs.Prelude.{◌≡◌, ◌≤◌, length, drop};
 ghost use Rattle.log_line.specs.Answers.{order_of};
 ghost use Rattle.log_walk.specs.Filled.{answer_of, filled_by};

@@ -7,7 +7,7 @@ use Rattle.answer.specs.Faults.{Fault, when, first_fault, answer_or, kept_or}
 use Rattle.layout.specs.Layout.{log_length}
 use Rattle.log_buffer.specs.Valid.{is_log}
 use Rattle.log_texts.specs.Spelled.{text_of}
-use Rattle.log.specs.Answer.{bad_count}
+use Rattle.log_reader.specs.Answer.{bad_count}
 
 -- The text: the header `vertex board labels preds`, and a line a step.
 abbrev pub log_written : List ℕ → List ℕ

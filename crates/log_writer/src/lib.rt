@@ -1,4 +1,6 @@
 // Writes a log buffer back as a text.
+#![tactic(auto)]
+
 ghost use Rattle.std.specs.Prelude.{◌≤◌, ◌≡◌, length};
 ghost use Rattle.log_texts.specs.Spelled.{text_of};
 ghost use Rattle.log_layout.specs.Tested.{Tested};

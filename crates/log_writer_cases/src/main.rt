@@ -7,6 +7,8 @@
 // that the writer is handed, without it the reader's; `l`: a place of the room that is set after reading; `L`: how many numbers of the
 // room are lent; `T`: how many bytes of the text room are lent, 70,000 without it. The log's room has six numbers more than the format
 // uses, marks.
+#![tactic(auto)]
+
 mod calls;
 mod lend;
 mod written;

@@ -1,6 +1,8 @@
 // Random log rooms: what the writer writes is read, and the numbers compared; a byte of it is changed, and the reader's refusal
 // compared; then one number is changed, and the room is refused or gives another text. It prints what was tried and how much of each
 // kind; `names.txt` has the names of the counts.
+#![tactic(auto)]
+
 mod changed;
 mod rooms;
 

@@ -75,7 +75,7 @@ fn write(log: &[u16], labels: u16, text: &mut [u8]) -> Answer {
 }
 
 pub fn read(text: &[u8], labels: u16, log: &mut [u16]) -> Answer {
-    log::read_log(text, labels, log)
+    log_reader::read_log(text, labels, log)
 }
 
 // Reads into a room of noise.

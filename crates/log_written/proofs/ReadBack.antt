@@ -18,7 +18,7 @@ use Rattle.layout.specs.Layout.{most_labels, log_length}
 use Rattle.log_line.specs.Format.{Known, log_text}
 use Rattle.log_store.specs.Buffer.{buffer_of}
 use Rattle.log_walk.specs.Filled.{filled_by}
-use Rattle.log.specs.Answer.{host_faults, text_answer, log_answer, log_after}
+use Rattle.log_reader.specs.Answer.{host_faults, text_answer, log_answer, log_after}
 use Rattle.log_buffer.specs.Valid.{is_log}
 use Rattle.log_buffer.proofs.Sound.{sound_iff}
 use Rattle.log_texts.specs.Spelled.{steps_of}

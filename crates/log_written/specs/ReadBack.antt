@@ -5,7 +5,7 @@ use Rattle.text.specs.Walk.{accepted}
 use Rattle.layout.specs.Layout.{log_length}
 use Rattle.log_line.specs.Format.{Known, log_text}
 use Rattle.log_store.specs.Buffer.{buffer_of}
-use Rattle.log.specs.Answer.{log_answer, log_after}
+use Rattle.log_reader.specs.Answer.{log_answer, log_after}
 
 -- Reading the text under the label count gives the first 7,170 numbers of the log buffer.
 pub record ReadBack (log : List ℕ) (count : ℕ) (text : List ℕ) : Type 0 where

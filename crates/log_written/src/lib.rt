@@ -1,1 +1,2 @@
 // Theorems about the log writer's calls have no code.
+#![tactic(auto)]

@@ -1,4 +1,6 @@
 // A bead marked at the steps that some lane of a pass reaches.
+#![tactic(auto)]
+
 ghost use Rattle.std.specs.Prelude.{◌≡◌, ◌<◌, ◌≤◌, length};
 ghost use Rattle.marking.specs.Marking.{found_at, marked_if, Added, AllMarked};
 

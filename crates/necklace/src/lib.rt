@@ -1,1 +1,2 @@
 // The theory has no code.
+#![tactic(auto)]

@@ -1,4 +1,6 @@
 // A field as a number.
+#![tactic(auto)]
+
 ghost use Rattle.std.specs.Prelude.{◌≡◌, [], length, get_or, ◌≤◌, ◌<◌};
 ghost use Rattle.text.specs.Split.{split};
 ghost use Rattle.fields.specs.Fields.{Marked};

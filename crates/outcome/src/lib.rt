@@ -1,5 +1,7 @@
 // What test programs say of a call: its answer, what it left in a buffer that was all marks before
 // it, how often each number was answered, and lines of bytes and numbers.
+#![tactic(auto)]
+
 mod answers;
 mod marks;
 mod print;

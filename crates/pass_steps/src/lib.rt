@@ -1,4 +1,6 @@
 // A step of sixteen forward passes: its turn, the lanes that reach it, and how far the passes have to go.
+#![tactic(auto)]
+
 ghost use Rattle.std.specs.Prelude.{◌≡◌, ◌+◌, ◌<◌, ◌≤◌, length};
 ghost use Rattle.layout.specs.Layout.{work_length};
 ghost use Rattle.necklace.specs.Dag.{WellFormed};

@@ -1,4 +1,6 @@
 // The pass of a bead in sixteen lanes: for each step the set of the lanes that reach it, SOME or ALL by the bead's rule.
+#![tactic(auto)]
+
 ghost use Rattle.std.specs.Prelude.{◌-◌, ◌<◌, ◌≤◌, length};
 ghost use Rattle.layout.specs.Layout.{work_length};
 ghost use Rattle.log_buffer.specs.Meaning.{steps_in};

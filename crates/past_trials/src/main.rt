@@ -1,5 +1,7 @@
 // Demand 3 on random patterns and pairs of logs: a row depends on nothing but its step's past. It prints what was tried and how much of
 // each kind; `names.txt` has the names of the counts.
+#![tactic(auto)]
+
 mod beyond;
 
 fn main() {

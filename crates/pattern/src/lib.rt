@@ -1,4 +1,6 @@
 // The pattern reader: from a text to the numbers of a pattern buffer, or the refusal of document 01 that applies.
+#![tactic(auto)]
+
 ghost use Rattle.std.specs.Prelude.{◌≡◌};
 ghost use Rattle.pattern.specs.Answer.{refused_with, pattern_answer, pattern_after};
 

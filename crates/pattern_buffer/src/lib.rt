@@ -1,4 +1,6 @@
 // The next sets of a pattern buffer whose beads are right: are they those that an accepted pattern text gives?
+#![tactic(auto)]
+
 ghost use Rattle.std.specs.Prelude.{◌≡◌, true, ◌<◌, ◌≤◌, length};
 ghost use Rattle.lists.specs.Places.{at};
 ghost use Rattle.layout.specs.Layout.{pattern_length, most_beads, most_states, most_labels, states_at};

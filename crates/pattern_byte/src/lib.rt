@@ -1,5 +1,7 @@
 // The byte of a refused pattern text: the place at fault in the line at fault, found again from the text, the refusal's number and its line.
 // It is asked for after a refusal only, so that reading a good text pays nothing for it.
+#![tactic(auto)]
+
 mod header;
 mod place;
 mod said;

@@ -4,6 +4,8 @@
 // A line of a file has its columns parted by tabs: what is tried; the text as a script (`script::expand`); where it is not the whole
 // buffer, how many numbers of the buffer are lent; and, where it is to be shown, the bead whose final set the line ends in. The buffer
 // has six numbers more than the format uses.
+#![tactic(auto)]
+
 use answer::Answer;
 
 fn main() {

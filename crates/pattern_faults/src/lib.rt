@@ -1,1 +1,2 @@
 // Theorems about the byte of a refused pattern text have no code.
+#![tactic(auto)]

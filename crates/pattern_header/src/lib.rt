@@ -1,4 +1,6 @@
 // The first line of a pattern.
+#![tactic(auto)]
+
 ghost use Rattle.std.specs.Prelude.{◌≡◌, ◌+◌, take, drop};
 ghost use Rattle.pattern_line.specs.Line.{fields_of, field_at};
 ghost use Rattle.pattern_header.specs.Header.{columns, same_fields, name_byte, name_bytes, is_name, are_names, among, distinct};

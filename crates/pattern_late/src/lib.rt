@@ -1,5 +1,7 @@
 // The refusals that need all rows: over the numbers of a pattern buffer, slot by slot, in the order of the rows.
 // The slot 16 j + q belongs to the state q of the bead with place j.
+#![tactic(auto)]
+
 ghost use Rattle.std.specs.Prelude.{◌≡◌, ◌≤◌, ◌<◌};
 ghost use Rattle.pattern_store.specs.Next.{all_within, all_single};
 ghost use Rattle.pattern_late.specs.Late.{Bounded, slot_said, judge_slot, late_said, late_faults};

@@ -1,5 +1,7 @@
 // The rows of a pattern buffer, put into a buffer of bytes: a line for each state of each bead.
 // As in `writing`, no function asks for room.
+#![tactic(auto)]
+
 ghost use Rattle.std.specs.Prelude.{◌+◌, ◌^◌, ◌≤◌, ◌<◌, ◌≡◌, cond, ◌++◌, ◌∷◌, [], T, length, get_or};
 ghost use Rattle.sets.specs.Sets.{member};
 ghost use Rattle.text.specs.Split.{line_from};

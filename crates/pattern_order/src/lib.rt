@@ -1,4 +1,6 @@
 // What a line below the header says, judged by the line before it.
+#![tactic(auto)]
+
 ghost use Rattle.std.specs.Prelude.{◌≡◌};
 ghost use Rattle.pattern_order.specs.Row.{follows_last, breaks_turns};
 ghost use Rattle.pattern_order.specs.Answers.{line_said, order_judged, row_for, rows_at};

@@ -1,3 +1,5 @@
 // Where a line of a pattern is at fault by its names or its numbers: the place of the field at fault, counted from 1; 0 where no single field is.
+#![tactic(auto)]
+
 pub mod header;
 pub mod shape;

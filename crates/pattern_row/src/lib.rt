@@ -1,4 +1,6 @@
 // A line below the header: its fields, then what it says.
+#![tactic(auto)]
+
 ghost use Rattle.std.specs.Prelude.{◌≡◌, ◌≤◌, length, take, drop};
 ghost use Rattle.layout.specs.Layout.{most_labels};
 ghost use Rattle.fields.specs.Fields.{Marked};

@@ -1,4 +1,6 @@
 // A row's numbers in the pattern buffer.
+#![tactic(auto)]
+
 ghost use Rattle.std.specs.Prelude.{◌≡◌, length};
 ghost use Rattle.layout.specs.Layout.{pattern_length};
 ghost use Rattle.pattern_store.specs.Store.{Storable, accepting_with, stored_values, stored};

@@ -1,5 +1,7 @@
 // Is a buffer one that an accepted pattern text gives? The host's test for refusal 6 (document 01).
 // The definition looks at each place by itself, and so does this code; the theorem `pattern_buffers` says what it means.
+#![tactic(auto)]
+
 ghost use Rattle.std.specs.Prelude.{◌≡◌, ◌<◌, ◌≤◌, length};
 ghost use Rattle.layout.specs.Layout.{pattern_length, most_beads};
 ghost use Rattle.pattern_buffer.specs.Valid.{turn_ok, bead_ok, beads_ok, is_pattern};

@@ -1,1 +1,2 @@
 // Theorems about the buffers that pattern texts give: no code.
+#![tactic(auto)]

@@ -1,4 +1,6 @@
 // The lines of a text: the header, then the rows, each stored as it passes.
+#![tactic(auto)]
+
 ghost use Rattle.std.specs.Prelude.{◌≡◌, [], ◌≤◌, length};
 ghost use Rattle.layout.specs.Layout.{pattern_length, most_labels};
 ghost use Rattle.pattern_line.specs.Line.{fields_of};

@@ -1,4 +1,6 @@
 // The pattern writer: from the numbers of a pattern buffer, under a header, to the text that gives them.
+#![tactic(auto)]
+
 ghost use Rattle.std.specs.Prelude.{◌<◌, ◌≡◌, T, length};
 ghost use Rattle.writing.specs.Put.{Put};
 ghost use Rattle.answer.specs.Answers.{refused_in};

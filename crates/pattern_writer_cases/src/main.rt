@@ -6,6 +6,8 @@
 // document 01 (`pattern.txt`); settings (crate `settings`); and the header text as a script, the pattern's own first line where the
 // column is empty. The settings are `p`: a place of the room that is set after reading; `P`: how many numbers of the room are lent; `T`:
 // how many bytes of the text room are lent, 70,000 without it. The pattern's room has six numbers more than the format uses, marks.
+#![tactic(auto)]
+
 mod calls;
 mod lend;
 mod written;

@@ -1,1 +1,2 @@
 // Theorems about the pattern writer's calls have no code.
+#![tactic(auto)]

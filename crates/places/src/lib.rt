@@ -1,5 +1,7 @@
 // Log and pattern buffers read and built place by place, for trials (document 01, "Lent rooms"). Each read and write is total. A
 // log is built step by step, and each step link by link: after each call the buffer is that of a whole log.
+#![tactic(auto)]
+
 use trial::{get, put};
 
 // Is i a member of the set?

@@ -1,4 +1,6 @@
 // The first phase, beads upwards: at which steps each prefix of the pattern holds.
+#![tactic(auto)]
+
 ghost use Rattle.std.specs.Prelude.{◌<◌, ◌≤◌, length};
 ghost use Rattle.layout.specs.Layout.{work_length};
 ghost use Rattle.log_buffer.specs.Meaning.{log_of, steps_in};

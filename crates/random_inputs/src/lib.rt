@@ -1,5 +1,7 @@
 // Random patterns and logs, made straight as buffers, and one number of a buffer changed. A buffer is all zeros before it is drawn.
 // Each function that draws takes the generator by value and answers it as it is after its draws.
+#![tactic(auto)]
+
 mod changes;
 mod links;
 mod logs;

@@ -1,4 +1,6 @@
 // What the program prints, as bytes in a buffer. No input or output.
+#![tactic(auto)]
+
 ghost use Rattle.std.specs.Prelude.{◌*◌, ◌≤◌, ◌++◌, length};
 ghost use Rattle.writing.specs.Put.{Put};
 ghost use Rattle.report_lines.specs.Lines.{header_text};

@@ -1,5 +1,7 @@
 // The report's lines, each written into a buffer from an index on. Each function answers the index
 // behind the line's newline.
+#![tactic(auto)]
+
 ghost use Rattle.std.specs.Prelude.{◌+◌, ◌-◌, ◌^◌, ◌≤◌, ◌<◌, min, ◌≡◌, ◌++◌, ◌∷◌, [], length};
 ghost use Rattle.numbers.specs.Numbers.{spell};
 ghost use Rattle.sets.specs.Sets.{member};

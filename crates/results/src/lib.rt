@@ -1,4 +1,6 @@
 // The result of judging buffers that passed their tests: both phases into arrays, the rows and the count out of them.
+#![tactic(auto)]
+
 ghost use Rattle.std.specs.Prelude.{◌≡◌, ◌++◌, ◌≤◌, length, drop, replicate};
 ghost use Rattle.log_buffer.specs.Meaning.{log_of, steps_in};
 ghost use Rattle.pattern_buffer.specs.Meaning.{pattern_of};

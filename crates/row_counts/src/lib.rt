@@ -1,4 +1,6 @@
 // The rows of a log by the other judge, counted by what they show.
+#![tactic(auto)]
+
 use places::has;
 use tallies::{add, add_if, differing, row_place};
 use trial::get;

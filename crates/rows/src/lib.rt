@@ -1,4 +1,6 @@
 // Rows of the result, written one after the other.
+#![tactic(auto)]
+
 ghost use Rattle.std.specs.Prelude.{◌≡◌, ◌++◌, ◌-◌, ◌*◌, ◌≤◌, ◌<◌, length, drop};
 ghost use Rattle.rows.specs.Rows.{pivot_or, row_from, rows_from, whole_from};
 ghost use Rattle.sets.specs.Sets.{member};

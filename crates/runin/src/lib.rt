@@ -1,8 +1,10 @@
 // The readers, the judge and the writers, exported to C, and nothing else.
+#![tactic(auto)]
+
 ghost use Rattle.std.specs.Prelude.{◌≡◌};
 ghost use Rattle.answer.specs.Answers.{code_of};
 ghost use Rattle.pattern.specs.Answer.{pattern_answer, pattern_after};
-ghost use Rattle.log.specs.Answer.{log_answer, log_after};
+ghost use Rattle.log_reader.specs.Answer.{log_answer, log_after};
 ghost use Rattle.judging.specs.Judge.{judge_answer, result_after, work_after};
 ghost use Rattle.pattern_writer.specs.Writer.{write_answer as write_pattern_answer, text_after as pattern_text_after};
 ghost use Rattle.log_writer.specs.Writer.{write_answer as write_log_answer, text_after as log_text_after};
@@ -22,7 +24,7 @@ pub extern "C" fn runin_read_log(text: &[u8], labels: u16, log: &mut [u16]) -> u
     ensures value { result ≡ code_of (log_answer text.now labels log.old) }
     ensures log_after { log.new ≡ log_after text.now labels log.old }
 {
-    answer::code(log::read_log(text, labels, log))
+    answer::code(log_reader::read_log(text, labels, log))
 }
 
 // The judge, for C.

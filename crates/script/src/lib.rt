@@ -5,6 +5,8 @@
 // up to the next `}`, N times over. In a body `\iK` is the repetition's index, from 0, plus K, and
 // `\pK` the index less K, or 0 where that would be negative; without digits K is 0. A backslash that
 // begins none of these stands for itself.
+#![tactic(auto)]
+
 ghost use Rattle.io.specs.Counts.{IsPrefixLen};
 
 mod bodies;

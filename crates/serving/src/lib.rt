@@ -1,4 +1,6 @@
 // Which candidates serve as the pivot before which steps: SOME and ALL are decided bead by bead, by a pass from the candidates.
+#![tactic(auto)]
+
 ghost use Rattle.std.specs.Prelude.{◌<◌, ◌≤◌, length};
 ghost use Rattle.layout.specs.Layout.{work_length};
 ghost use Rattle.serving.specs.Serving.{Asked, AdvanceFor, FoundIn, ServedIf};

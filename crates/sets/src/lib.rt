@@ -1,5 +1,7 @@
 // Sets of numbers below 16, each kept in a u16: bit i stands for the member i.
 // Callers reason by the laws of proofs/Laws.antt and not by bits.
+#![tactic(auto)]
+
 ghost use Rattle.std.specs.Prelude.{◌≡◌, ◌<◌, ◌≤◌};
 ghost use Rattle.sets.specs.Sets.{member, singleton, union, intersection, complement, overlaps, within, single};
 

@@ -1,6 +1,8 @@
 // Settings of a case: items joined by commas, each a letter and what it sets. A letter with a number says how many numbers of a buffer are
 // lent, or a count; a letter with a place, `=` and a number says that this place of a buffer is set to the number. Which letter means
 // what is the program's.
+#![tactic(auto)]
+
 ghost use Rattle.std.specs.Prelude.{◌≤◌};
 
 // The number of the first item with this letter; without such an item the other one.

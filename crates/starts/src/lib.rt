@@ -1,4 +1,6 @@
 // The starting steps of the passes for a bead: the steps at which the earlier beads hold, with the lanes that they are given.
+#![tactic(auto)]
+
 ghost use Rattle.std.specs.Prelude.{◌≡◌, cond, ◌+◌, ◌<◌, ◌≤◌, length, set};
 ghost use Rattle.sets.specs.Sets.{singleton};
 ghost use Rattle.layout.specs.Layout.{most_beads, most_steps};

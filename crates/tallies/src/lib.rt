@@ -1,4 +1,6 @@
 // What trials share besides `trial`: counts of what was tried, and buffers compared.
+#![tactic(auto)]
+
 mod buffers;
 mod counts;
 

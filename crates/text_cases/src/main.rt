@@ -2,6 +2,8 @@
 //
 // A line of the file has its columns parted by tabs: what is tried, the kind, the bytes as a script (`script::expand`), and what the
 // kind takes besides them: the other bytes of a comparison.
+#![tactic(auto)]
+
 mod show;
 
 fn main() {

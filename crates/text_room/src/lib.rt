@@ -1,5 +1,7 @@
 // What the test programs of the writers share: the text room, a buffer of bytes that is all marks before the call and is lent from byte 8
 // on; what a call left in it; cases counted by kind.
+#![tactic(auto)]
+
 mod bytes;
 mod kinds;
 

@@ -1,6 +1,8 @@
 // What test programs share: slices read and written at any index, texts put together in a buffer,
 // files of cases, pseudo-random numbers. No function has a `requires`, and contracts say only what
 // keeps an index within bounds.
+#![tactic(auto)]
+
 mod cells;
 mod files;
 mod random;

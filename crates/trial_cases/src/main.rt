@@ -2,6 +2,8 @@
 //
 // A line of the file has its columns parted by tabs: what is tried, the kind, and what the kind takes. A kind that takes nothing is
 // a group of cases that share a buffer or a generator; its function has their names.
+#![tactic(auto)]
+
 mod appended;
 mod cells;
 mod drawn;

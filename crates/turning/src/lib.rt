@@ -1,4 +1,6 @@
 // The turn of a step in sixteen forward passes at once.
+#![tactic(auto)]
+
 ghost use Rattle.std.specs.Prelude.{◌+◌, ◌<◌, ◌≤◌, length};
 ghost use Rattle.sets.specs.Sets.{members};
 ghost use Rattle.layout.specs.Layout.{most_beads, pattern_length, work_length};

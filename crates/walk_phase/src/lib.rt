@@ -1,4 +1,6 @@
 // The second phase: the walk back over the beads, for every step at which the whole pattern holds.
+#![tactic(auto)]
+
 ghost use Rattle.std.specs.Prelude.{◌≡◌, ◌≤◌, length, get_or};
 ghost use Rattle.layout.specs.Layout.{work_length};
 ghost use Rattle.log_buffer.specs.Meaning.{log_of, steps_in};

@@ -1,4 +1,6 @@
 // The places of the pivots, 1,024 a bead: how they are laid out before the walk back, and which steps still search for their pivot.
+#![tactic(auto)]
+
 ghost use Rattle.std.specs.Prelude.{◌≡◌, ◌+◌, ◌-◌, ◌*◌, ◌<◌, ◌≤◌, length, get_or};
 ghost use Rattle.lists.specs.Filled.{Filled};
 ghost use Rattle.log_buffer.specs.Meaning.{log_of, steps_in};

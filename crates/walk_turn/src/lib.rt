@@ -1,4 +1,6 @@
 // A turn of the walk back: of one bead, of some candidates for its pivots, and of the next step that has one of them to look for.
+#![tactic(auto)]
+
 ghost use Rattle.std.specs.Prelude.{◌-◌, ◌+◌, ◌<◌, ◌≤◌, ◌≡◌, length};
 ghost use Rattle.layout.specs.Layout.{work_length};
 ghost use Rattle.walk_places.specs.Search.{LastsIn};

@@ -1,6 +1,8 @@
 // Bytes and numbers written into a buffer from an index on. A byte is put where there is a place for
 // it, and the answer, the index behind what is written, advances anyway: so each function asks for
 // no room, and over a buffer without places it measures its text.
+#![tactic(auto)]
+
 ghost use Rattle.std.specs.Prelude.{◌+◌, ◌*◌, ◌^◌, ◌≤◌, ◌<◌, ◌≡◌, ◌++◌, ◌∷◌, [], length};
 ghost use Rattle.numbers.specs.Numbers.{spell};
 ghost use Rattle.writing.specs.Put.{Put, listed};

@@ -7,8 +7,8 @@ use Rattle.answer.specs.Answers.{accepted_with}
 use Rattle.layout.specs.Layout.{log_length}
 use Rattle.log_line.specs.Format.{Known}
 use Rattle.log_store.specs.Buffer.{buffer_of}
-use Rattle.log.specs.Answer.{refused_with}
-use Rattle.log.specs.Refused.{LinesPass, Refused}
+use Rattle.log_reader.specs.Answer.{refused_with}
+use Rattle.log_reader.specs.Refused.{LinesPass, Refused}
 
 -- What an accepted call answers and leaves.
 pub record Read (text : List ℕ) (count : ℕ) (buffer : List ℕ) (answer : Answer) (buffer' : List ℕ) : Type 0 where

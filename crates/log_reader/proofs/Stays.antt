@@ -15,7 +15,7 @@ use Rattle.layout.specs.Layout.{log_length}
 use Rattle.log_line.specs.Format.{Known, log_text}
 use Rattle.log_walk.specs.Filled.{answer_of, filled_by}
 use Rattle.log_byte.proofs.ByteLaws.{byte_fits}
-use Rattle.log.specs.Answer.{bad_count, host_faults, text_answer, log_answer, log_after}
+use Rattle.log_reader.specs.Answer.{bad_count, host_faults, text_answer, log_answer, log_after}
 
 module _ (text : List ℕ) (count : ℕ) (buffer : List ℕ) where
   pub numbers_stay : without_byte (log_answer text count buffer) ≡ answer_or (first_fault (host_faults count buffer)) (answer_of (log_text count text))

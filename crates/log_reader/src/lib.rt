@@ -1,7 +1,9 @@
 // The log reader: from a text to the numbers of the log buffer, or the refusal that document 01 gives it.
+#![tactic(auto)]
+
 ghost use Rattle.std.specs.Prelude.{◌≡◌, ◌≤◌, length};
 ghost use Rattle.log_line.specs.Format.{log_text};
-ghost use Rattle.log.specs.Answer.{text_answer, log_answer, log_after};
+ghost use Rattle.log_reader.specs.Answer.{text_answer, log_answer, log_after};
 ghost use Rattle.log_walk.specs.Filled.{answer_of, filled_by};
 
 use answer::Answer;

@@ -22,7 +22,7 @@ use Rattle.log_line.specs.Header.{columns_of}
 use Rattle.log_line.specs.Format.{Known, judge_header, judge_line, log_format, conclude, log_text}
 use Rattle.log_line.specs.Answers.{refusal_number, header_number, header_values, order_of, header_says}
 use Rattle.log_byte.specs.Byte.{log_byte}
-use Rattle.log.specs.Answer.{text_answer, log_answer, log_after}
+use Rattle.log_reader.specs.Answer.{text_answer, log_answer, log_after}
 use Rattle.log_walk.specs.Filled.{answer_of, filled_by}
 use Rattle.log_walk.specs.Reading.{steps_read}
 use Rattle.log_store.specs.Stores.{knowing}

@@ -1,8 +1,8 @@
 -- The size, the first line, the others.
-use Rattle.log.proofs.TextLaws.{text_kit}
+use Rattle.log_reader.proofs.TextLaws.{text_kit}
 use borrow.Author.Rules.{rules}
-use Rattle.log.proofs.read_text.Statement.{statement}
-use Rattle.log.proofs.read_text.Tie as tie
+use Rattle.log_reader.proofs.read_text.Statement.{statement}
+use Rattle.log_reader.proofs.read_text.Tie as tie
 
 number-of-requires : tie.Need-number-of-requires
 number-of-requires c κs = search (rules, text_kit)

@@ -24,9 +24,9 @@ use Rattle.log_line.specs.Step.{Step, step_of, step_at, malformed, misnumbered, 
 use Rattle.log_line.specs.Format.{Known, judge_values, judge_step, judge_line, log_format, conclude, log_text}
 use Rattle.log_walk.specs.Filled.{filled_by}
 use Rattle.log_byte.specs.Byte.{log_byte}
-use Rattle.log.specs.Answer.{bad_count, refused_with, text_answer, log_answer, log_after}
-use Rattle.log.specs.Refused.{Called, Readable, LinesPass, Refused, short, labels, size, line, nothing}
-use Rattle.log.specs.Promise.{Promise, refused as refused_so, accepted as accepted_so}
+use Rattle.log_reader.specs.Answer.{bad_count, refused_with, text_answer, log_answer, log_after}
+use Rattle.log_reader.specs.Refused.{Called, Readable, LinesPass, Refused, short, labels, size, line, nothing}
+use Rattle.log_reader.specs.Promise.{Promise, refused as refused_so, accepted as accepted_so}
 
 -- ---- no line is refused with 0
 

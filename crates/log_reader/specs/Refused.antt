@@ -6,7 +6,7 @@ use Rattle.text.specs.Walk.{bad_size}
 use Rattle.text.specs.FirstBad.{AllPass, FirstBad}
 use Rattle.layout.specs.Layout.{most_log_text, log_length}
 use Rattle.log_line.specs.Format.{Known, judge_line, log_format}
-use Rattle.log.specs.Answer.{bad_count}
+use Rattle.log_reader.specs.Answer.{bad_count}
 
 -- The host is not at fault: the room is as long as asked, and the label count is 1 to 16.
 pub record Called (count : ℕ) (buffer : List ℕ) : Type 0 where

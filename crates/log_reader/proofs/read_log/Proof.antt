@@ -1,8 +1,8 @@
 -- The host's faults, then the text.
 use Rattle.answer.proofs.FaultLaws.{fault_kit, pass_kit}
 use borrow.Author.Rules.{rules}
-use Rattle.log.proofs.read_log.Statement.{statement}
-use Rattle.log.proofs.read_log.Tie as tie
+use Rattle.log_reader.proofs.read_log.Statement.{statement}
+use Rattle.log_reader.proofs.read_log.Tie as tie
 
 refused-requires : tie.Need-refused-requires
 refused-requires c κs = search rules

@@ -1,8 +1,8 @@
 -- Accepted, or the refusal and its byte.
-use Rattle.log.proofs.TextLaws.{placed_kit}
+use Rattle.log_reader.proofs.TextLaws.{placed_kit}
 use borrow.Author.Rules.{rules}
-use Rattle.log.proofs.read_placed.Statement.{statement}
-use Rattle.log.proofs.read_placed.Tie as tie
+use Rattle.log_reader.proofs.read_placed.Statement.{statement}
+use Rattle.log_reader.proofs.read_placed.Tie as tie
 
 read-text-requires : tie.Need-read-text-requires
 read-text-requires c κs = search (rules, placed_kit)
