@@ -154,6 +154,7 @@ hopeful_case = record { accepting = last; before = back }
 
     lost : (r : ℕ) → r ∈ (3 ∷ []) → T (elem r (0 ∷ 1 ∷ 2 ∷ [])) → ⊥
     lost r (inl e) t = subst (λ (z : ℕ). T (elem z (0 ∷ 1 ∷ 2 ∷ []))) e t
+    lost r (inr x'') t = elim x'' [ ]
 
     back : (q a r : ℕ) → q < 16 → a < 16 → r ∈ zero_then_one.next q a → T (elem r (0 ∷ 1 ∷ 2 ∷ [])) → T (elem q (0 ∷ 1 ∷ 2 ∷ []))
     back zero a r few known m t = tt

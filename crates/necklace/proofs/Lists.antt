@@ -43,6 +43,7 @@ only r s ls e m = go (rw e at m)
   where
     go : r ∈ (s ∷ []) → r ≡ s
     go (inl p) = p
+    go (inr x') = elim x' [ ]
 
 -- ---- over the members of a set
 
