@@ -6,7 +6,7 @@ ghost use Rattle.answer.specs.Answers.{accepted_with, refused_at, refused_in, co
 
 // Number 0 is accepted; any other is the refusal of that number in document 01. The line at fault, 0 where no text line is, and the byte:
 // the place in that line, from 1, where what is at fault starts, 0 where that is no single place.
-#[derive(Drop)]
+#[derive(Clone, Copy)]
 pub struct Answer {
     pub number: u16,
     pub line: u16,

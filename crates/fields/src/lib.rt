@@ -6,7 +6,7 @@ ghost use Rattle.text.specs.Split.{split, first_part};
 ghost use Rattle.fields.specs.Fields.{field_of, same_bytes, Marked};
 
 // A field's place in its line: its first byte and the one after its last. Or there is no such field.
-#[derive(Drop)]
+#[derive(Clone, Copy)]
 pub enum Field {
     At(usize, usize),
     Missing,

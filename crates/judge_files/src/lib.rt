@@ -12,7 +12,7 @@ use answer::Answer;
 use loading::load;
 
 // The answer, and how many bytes of the output there are to print.
-#[derive(Drop)]
+#[derive(Clone, Copy)]
 pub struct Output {
     pub answer: Answer,
     pub length: usize,

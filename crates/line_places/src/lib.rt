@@ -8,7 +8,7 @@ ghost use Rattle.line_places.specs.Place.{place_at, unprintable_place, ended_lin
 use fields::{Field, find_field};
 
 // A line found by its number: where it begins and ends in the text; or, where it is not whole, the place at fault, 0 where it is no single one.
-#[derive(Drop)]
+#[derive(Clone, Copy)]
 pub enum LineFound {
     Whole(usize, usize),
     Broken(usize),

@@ -6,7 +6,7 @@ ghost use Rattle.io.specs.Counts.{IsPrefixLen};
 ghost use Rattle.loading.specs.Load.{after_read, Onward};
 
 // What is known of a file's text: how many bytes it has, and whether there may be more to read.
-#[derive(Drop)]
+#[derive(Clone, Copy)]
 pub struct Progress {
     pub bytes: usize,
     pub more: bool,

@@ -9,7 +9,7 @@ use crate::refusals::Refusal;
 use fields::{field_count, first_length, same};
 
 // The place of each column among the fields, 0 to 3.
-#[derive(Drop)]
+#[derive(Clone, Copy)]
 pub struct ColumnOrder {
     pub vertex: usize,
     pub board: usize,
@@ -17,7 +17,7 @@ pub struct ColumnOrder {
     pub preds: usize,
 }
 
-#[derive(Drop)]
+#[derive(Clone, Copy)]
 pub enum HeaderAnswer {
     Columns(ColumnOrder),
     Refused(Refusal),

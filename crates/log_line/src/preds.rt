@@ -7,7 +7,7 @@ use fields::same;
 use numbers::{NumberRead, read_number};
 
 // What the field comes to for a step: is it `-` or numbers joined by commas? If so, are the links wrong (24), and how many are there?
-#[derive(Drop)]
+#[derive(Clone, Copy)]
 pub struct PredScan {
     pub formed: bool,
     pub mislinked: bool,

@@ -3,7 +3,7 @@ ghost use Rattle.std.specs.Prelude.{◌≡◌};
 ghost use Rattle.log_line.specs.Answers.{refusal_number};
 
 // Document 01's 20 to 26, in this order.
-#[derive(Drop)]
+#[derive(Clone, Copy)]
 pub enum Refusal {
     // Text empty or too large.
     Size,

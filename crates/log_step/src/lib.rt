@@ -17,14 +17,14 @@ use log_line::refusals::Refusal;
 use numbers::{Number, number_at};
 
 // What a line says of its step: board, label set, and how many links. The links stand beside it.
-#[derive(Drop)]
+#[derive(Clone, Copy)]
 pub struct StepValues {
     pub board: u16,
     pub labels: u16,
     pub count: u16,
 }
 
-#[derive(Drop)]
+#[derive(Clone, Copy)]
 pub enum LineAnswer {
     Values(StepValues),
     Refused(Refusal),

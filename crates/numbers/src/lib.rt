@@ -9,14 +9,14 @@ ghost use Rattle.numbers.specs.Numbers.{number_of, is_number, value_of, end_of, 
 use fields::{Field, marked_field};
 
 // A number, or bytes that are none.
-#[derive(Drop)]
+#[derive(Clone, Copy)]
 pub enum Number {
     Value(u16),
     Malformed,
 }
 
 // What reading a number came to: the number and where it ended; or where reading stopped, since no number can follow there.
-#[derive(Drop)]
+#[derive(Clone, Copy)]
 pub enum NumberRead {
     Ended(u16, usize),
     Stopped(usize),

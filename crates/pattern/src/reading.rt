@@ -10,7 +10,7 @@ use pattern_line::refusals::Refusal;
 use pattern_walk::{FirstAnswer, RowsAnswer, read_first, read_rows};
 
 // How many beads the text has, or the refusal and its line.
-#[derive(Drop)]
+#[derive(Clone, Copy)]
 pub enum TextAnswer {
     Beads(u16),
     Refused(Refusal, u16),

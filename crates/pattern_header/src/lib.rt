@@ -12,7 +12,7 @@ use pattern_line::refusals::Refusal;
 use pattern_line::words::{same_fields, word_at};
 
 // How many labels the header names, or why it is refused.
-#[derive(Drop)]
+#[derive(Clone, Copy)]
 pub enum HeaderAnswer {
     Labels(u16),
     Refused(Refusal),

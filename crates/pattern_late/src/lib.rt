@@ -9,14 +9,14 @@ ghost use Rattle.pattern_late.specs.Late.{Bounded, slot_said, judge_slot, late_s
 use pattern_line::refusals::Refusal;
 
 // A slot's answer.
-#[derive(Drop)]
+#[derive(Clone, Copy)]
 pub enum SlotAnswer {
     Fine,
     Refused(Refusal),
 }
 
 // The answer for all slots: the refusal with the line of the first slot at fault.
-#[derive(Drop)]
+#[derive(Clone, Copy)]
 pub enum LateAnswer {
     Fine,
     Refused(Refusal, u16),

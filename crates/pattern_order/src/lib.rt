@@ -8,7 +8,7 @@ ghost use Rattle.pattern_order.specs.Answers.{line_said, order_judged, row_for, 
 use pattern_line::refusals::Refusal;
 
 // A line's values but for its next sets: bead, rule (1 SOME, 2 ALL, 0 neither), state, final.
-#[derive(Drop)]
+#[derive(Clone, Copy)]
 pub struct LineValues {
     pub bead: u16,
     pub rule: u16,
@@ -17,14 +17,14 @@ pub struct LineValues {
 }
 
 // What a line says, or why it is refused.
-#[derive(Drop)]
+#[derive(Clone, Copy)]
 pub enum LineAnswer {
     Values(LineValues),
     Refused(Refusal),
 }
 
 // What is remembered of the line before: bead 0 where there is none.
-#[derive(Drop)]
+#[derive(Clone, Copy)]
 pub struct Last {
     pub bead: u16,
     pub rule: u16,

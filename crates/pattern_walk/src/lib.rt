@@ -18,14 +18,14 @@ use pattern_store::store_row;
 use text::lines::{Line, read_line};
 
 // How many labels the header names, and where the second line begins. Or the refusal and its line.
-#[derive(Drop)]
+#[derive(Clone, Copy)]
 pub enum FirstAnswer {
     Labels(u16, usize),
     Refused(Refusal, u16),
 }
 
 // All rows are stored, or the refusal and its line.
-#[derive(Drop)]
+#[derive(Clone, Copy)]
 pub enum RowsAnswer {
     Stored,
     Refused(Refusal, u16),

@@ -2,7 +2,7 @@
 use crate::changes::reduced;
 use trial::Random;
 
-#[derive(Drop)]
+#[derive(Clone, Copy)]
 struct Way {
     first: u16,
     gap: u64,

@@ -5,7 +5,7 @@ ghost use Rattle.std.specs.Prelude.{◌≤◌, length};
 use trial::{get_byte, number, part};
 
 // The byte, or the number whose digits are meant; and how many bytes of the script it takes.
-#[derive(Drop)]
+#[derive(Clone, Copy)]
 pub struct Item {
     pub value: u64,
     pub is_number: bool,

@@ -8,7 +8,7 @@ use trial::{find_byte, get_byte, number, part};
 
 // How many times, where in the script the body begins and ends, and how many bytes of the script the
 // repetition takes.
-#[derive(Drop)]
+#[derive(Clone, Copy)]
 struct Repeat {
     times: u64,
     from: usize,

@@ -8,7 +8,7 @@ ghost use Rattle.starts.specs.Starts.{prefix_at, StartsOf, Looked, Extended, Lan
 
 // The starting steps of a pass: they lie from `first` on and below `until` (none if `until` is not above `first`); every step from the one
 // asked for up to `to` has been looked at.
-#[derive(Drop)]
+#[derive(Clone, Copy)]
 pub struct Starts {
     pub first: usize,
     pub until: usize,
@@ -16,7 +16,7 @@ pub struct Starts {
 }
 
 // The starting steps so far, and the lane of the next one.
-#[derive(Drop)]
+#[derive(Clone, Copy)]
 struct Dealt {
     pub starts: Starts,
     pub lane: u16,

@@ -3,7 +3,7 @@ ghost use Rattle.std.specs.Prelude.{◌≡◌};
 ghost use Rattle.text.specs.Lines.{ended, printable, line_of};
 
 // What is wrong with a line, before its fields are looked at.
-#[derive(Drop)]
+#[derive(Clone, Copy)]
 pub enum LineFault {
     // More bytes before the newline than allowed.
     Long,
@@ -14,14 +14,14 @@ pub enum LineFault {
 }
 
 // A line: how many bytes stand before its newline, or its fault.
-#[derive(Drop)]
+#[derive(Clone, Copy)]
 pub enum Line {
     Whole(usize),
     Broken(LineFault),
 }
 
 // Where a line ends: at the first newline, unless more than the allowed bytes or no newline come.
-#[derive(Drop)]
+#[derive(Clone, Copy)]
 pub enum End {
     At(usize),
     Over,

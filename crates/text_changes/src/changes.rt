@@ -4,7 +4,7 @@
 use trial::Random;
 
 // The byte is put at an index and at a later one, which is the text's end where there is no second change.
-#[derive(Drop)]
+#[derive(Clone, Copy)]
 pub struct Change {
     pub kind: u64,
     pub at: usize,

@@ -3,7 +3,7 @@ use crate::changes::Change;
 use answer::Answer;
 
 // Where a byte stands: its line, its place in the line, and where its field starts, all from 1.
-#[derive(Drop)]
+#[derive(Clone, Copy)]
 struct Spot {
     line: u16,
     place: u16,

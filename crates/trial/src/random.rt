@@ -2,7 +2,7 @@
 // a prime.
 ghost use Rattle.std.specs.Prelude.{◌-◌, ◌≤◌};
 
-#[derive(Drop)]
+#[derive(Clone, Copy)]
 pub struct Random {
     pub state: u64,
 }

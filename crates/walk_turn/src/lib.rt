@@ -8,7 +8,7 @@ ghost use Rattle.walk_turn.specs.Turns.{TurnIn, Due, TurnReady, AimOf, Begun, Pu
 
 // A turn: how many beads are left, the last of which it is of; its candidates, from `from` on and below `to`; and the first step not looked
 // at. Where that is `from`, it is not known yet where the candidates end.
-#[derive(Drop)]
+#[derive(Clone, Copy)]
 pub struct Turn {
     pub left: usize,
     pub from: usize,
@@ -18,7 +18,7 @@ pub struct Turn {
 
 // What is aimed at in a turn: the next step that has something to look for, the pivot picked last for it, and where the candidates to look at
 // end: at `to`, as those of the turn, or at once if there is no such step.
-#[derive(Drop)]
+#[derive(Clone, Copy)]
 pub struct Aim {
     pub step: usize,
     pub pivot: usize,
