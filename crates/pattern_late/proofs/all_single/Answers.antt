@@ -1,0 +1,30 @@
+use borrow.Author.Rules.{rules}
+use Rattle.pattern_late.proofs.LateLaws.{single_kit}
+use Rattle.pattern_late.proofs.all_single.Goals as goal
+
+pub loop-i-init : goal.loop-i-init
+loop-i-init c = search (rules, single_kit)
+
+pub offset_bounds-sets-i : goal.offset_bounds-sets-i
+offset_bounds-sets-i c = search (rules, single_kit)
+
+pub bounds-sets-i : goal.bounds-sets-i
+bounds-sets-i c = search (rules, single_kit)
+
+pub single-requires : goal.single-requires
+single-requires c = search (rules, single_kit)
+
+pub returns-then-not-single : goal.returns-then-not-single
+returns-then-not-single c = search (rules, single_kit)
+
+pub overflow_add-i : goal.overflow_add-i
+overflow_add-i c = search (rules, single_kit)
+
+pub loop-i-smaller : goal.loop-i-smaller
+loop-i-smaller c = search (rules, single_kit)
+
+pub loop-i-preserved : goal.loop-i-preserved
+loop-i-preserved c = search (rules, single_kit)
+
+pub returns : goal.returns
+returns c = search (rules, single_kit)
