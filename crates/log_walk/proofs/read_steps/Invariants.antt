@@ -1,0 +1,13 @@
+-- The loop keeps: the answer is that of the lines left, with the steps before them known and in the buffer.
+use Rattle.log_walk.proofs.ReadLaws.{Reading}
+use lib.ListN.{length}
+use mathlib.Core.Path.{◌≡◌}
+use Prim.Native.Nat.{◌≤◌, ◌-◌}
+use Rattle.log_walk.proofs.read_steps.Given as goal
+
+abbrev pub invariant-loop-at : goal.invariant-loop-at
+invariant-loop-at l = (l.at ≤ length l.text) × (l.v ≤ 1024) × (l.links ≤ 4096)
+    × (length l.buffer ≡ 7170) × Reading l.text l.start l.labels l.order l.at l.v l.links l.buffer
+
+abbrev pub decreases-loop-at : goal.decreases-loop-at
+decreases-loop-at l = length l.text - l.at
