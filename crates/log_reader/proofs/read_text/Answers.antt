@@ -1,6 +1,7 @@
 -- The size, the first line, the others.
-use Rattle.log_reader.proofs.TextLaws.{text_kit}
+use Rattle.log_reader.proofs.TextLaws.{text_kit, steps_answered, steps_filled}
 use borrow.Author.Rules.{rules}
+use native.Mathlib.Omega.{arith}
 use Rattle.log_reader.proofs.read_text.Goals as goal
 
 pub number_of-requires : goal.number_of-requires
@@ -69,5 +70,39 @@ returns-in-Refused c = search (rules, text_kit)
 pub shape_of-log : goal.shape_of-log
 shape_of-log c = search (rules, text_kit)
 
-pub returns-in-Columns : goal.returns-in-Columns
-returns-in-Columns c = search (rules, text_kit)
+pub returns-in-Columns-clause-value : goal.returns-in-Columns-clause-value
+returns-in-Columns-clause-value c =
+    steps_answered
+    c.args.labels
+    c.args.text.now
+    (omega arith)
+    (omega arith)
+    c.read_line.result
+    c.read_line.ensures
+    c.in-Whole.n
+    c.in-Whole.is
+    c.read_header.result
+    c.read_header.ensures
+    c.in-Columns.order
+    c.in-Columns.is
+    c.read_steps.result
+    c.read_steps.ensures.value
+
+pub returns-in-Columns-clause-log_after : goal.returns-in-Columns-clause-log_after
+returns-in-Columns-clause-log_after c =
+    steps_filled
+    c.args.labels
+    c.args.text.now
+    (omega arith)
+    (omega arith)
+    c.read_line.result
+    c.read_line.ensures
+    c.in-Whole.n
+    c.in-Whole.is
+    c.read_header.result
+    c.read_header.ensures
+    c.in-Columns.order
+    c.in-Columns.is
+    c.args.log.now
+    c.read_steps.new.log
+    c.read_steps.ensures.log_after
