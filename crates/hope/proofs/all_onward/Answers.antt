@@ -1,0 +1,12 @@
+use Rattle.lists.proofs.FilledLaws.{kit}
+use borrow.Author.Rules.{rules}
+use Rattle.hope.proofs.all_onward.Goals as goal
+
+pub loop-state-init : goal.loop-state-init
+loop-state-init c = search (rules, kit)
+
+pub loop-state-preserved : goal.loop-state-preserved
+loop-state-preserved c = search (rules, kit)
+
+pub returns : goal.returns
+returns c = search (rules, kit)
