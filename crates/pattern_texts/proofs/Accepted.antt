@@ -99,7 +99,7 @@ header_labels fs e =
 
 next_out : (all rs : List Row) (k : Known) (n : ℕ) (t : Known) → walk (judge_next all) k n rs ≡ accepted t
     → (k ≡ t) × ((r : Row) → Memᴰ r rs → (strays all r ≡ false) × (ambiguous r ≡ false))
-next_out all [] k n t e = (accepted_same k t (sym (walk_nil (judge_next all) k n) ∙ e), λ r m. absurd (Memᴰ.not_nil m))
+next_out all [] k n t e = (accepted_same k t (sym (walk_nil (judge_next all) k n) ∙ e), λ r m. absurd (Memᴰ.not-nil m))
 next_out all (s ∷ rs) k n t e =
     let w = walk_step (judge_next all) k n s rs t e in
     let a = pass_unless (strays all s) _ 15 w.0 w.1 in

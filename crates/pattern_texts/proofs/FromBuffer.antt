@@ -34,7 +34,7 @@ use Rattle.pattern_texts.proofs.Buffers.{length_buffer, rule_place, states_place
 
 bead_rows_out : (b : List ℕ) (j n : ℕ) (r : Row) → Memᴰ r (rows_of_bead b j n) → (q : ℕ) × (q < n) × (r ≡ row_in b j q)
 unfolding rows_of_bead
-bead_rows_out b j zero r m = absurd (Memᴰ.not_nil m)
+bead_rows_out b j zero r m = absurd (Memᴰ.not-nil m)
 bead_rows_out b j (suc n) r m = go (Memᴰ.append_cases (rows_of_bead b j n) m) (λ k. bead_rows_out b j n r k)
   where
     go : Memᴰ r (rows_of_bead b j n) ⊎ Memᴰ r (row_in b j n ∷ []) → (Memᴰ r (rows_of_bead b j n) → (q : ℕ) × (q < n) × (r ≡ row_in b j q))
@@ -62,7 +62,7 @@ pub record Of (b : List ℕ) (n : ℕ) (r : Row) : Type 0 where
 
 pub rows_out : (b : List ℕ) (n : ℕ) (r : Row) → Memᴰ r (rows_of_beads b n) → Of b n r
 unfolding rows_of_beads
-rows_out b zero r m = absurd (Memᴰ.not_nil m)
+rows_out b zero r m = absurd (Memᴰ.not-nil m)
 rows_out b (suc n) r m = go (Memᴰ.append_cases (rows_of_beads b n) m) (λ k. rows_out b n r k)
   where
     go : Memᴰ r (rows_of_beads b n) ⊎ Memᴰ r (rows_of_bead b n (at b (states_at n))) → (Memᴰ r (rows_of_beads b n) → Of b n r)

@@ -68,7 +68,7 @@ told_start c = record {
   rule_low = λ β h k. absurd (omega arith);
   rule_high = λ β. let z = rule_nil β in omega arith;
   turns = λ β h k. absurd (omega arith);
-  each = λ r m. absurd (Memᴰ.not_nil m);
+  each = λ r m. absurd (Memᴰ.not-nil m);
   filled = λ β q h. let z = states_nil β in absurd (omega arith);
 }
 

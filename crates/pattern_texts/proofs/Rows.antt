@@ -101,7 +101,7 @@ pub data Found (rs : List Row) (β q : ℕ) : Type 0 where
 
 pub find : (rs : List Row) (β q : ℕ) → Found rs β q
 unfolding accepting_of next_of
-find [] β q = missing (λ r m e f. Memᴰ.not_nil m) refl (λ a. refl)
+find [] β q = missing (λ r m e f. Memᴰ.not-nil m) refl (λ a. refl)
 find (r ∷ rs) β q = go (is_at r β q) refl (find rs β q)
   where
     no_more : is_at r β q ≡ false → ((s : Row) → Memᴰ s rs → s.bead ≡ β → s.state ≡ q → ⊥)
