@@ -1,6 +1,6 @@
 -- What the loop that reads a file needs. Assumes nothing.
-use Prim.Native.Nat.{ℕ, zero, suc, ◌+◌, ◌-◌, ◌*◌, ◌^◌, ◌≤◌, ◌<◌, min}
-use mathlib.Core.Path.{◌≡◌, refl, sym, ap, subst}
+use Prim.Native.Nat.{ℕ, suc, ◌+◌, ◌-◌, ◌*◌, ◌^◌, ◌≤◌, ◌<◌, min}
+use mathlib.Core.Path.{◌≡◌, refl, sym, subst}
 use mathlib.Core.Bool.{Bool, true, false, cond}
 use mathlib.Core.List.{List}
 use native.Mathlib.Omega.{arith}
@@ -13,9 +13,8 @@ use mir.Val.{SFits, to_z, of_z}
 use mir.Facts.{to_z-of_z}
 use lib.ListN.{length, take, drop, length-drop}
 use lib.Seq.{length-take-le}
-use Rattle.io.specs.Counts.{clamp_len}
 use Rattle.loading.specs.declared.Progress.{Progress}
-use Rattle.loading.specs.Load.{after_read, Onward}
+use Rattle.loading.specs.Load.{clamp_len, after_read, Onward}
 
 -- A signed number is tested as the machine reads it back from its bits.
 module _ (done room : ℕ) (got : ℤ) (fits : SFits w64 got) where
