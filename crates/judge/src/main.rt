@@ -1,7 +1,9 @@
 // Judges `log.txt` by `pattern.txt`, both in the working directory, and prints the rows or the refusal.
 #![tactic(auto)]
 
-fn main() {
+use std::io;
+
+fn main(rt: HostRuntime) -> io::Result<()> {
     let mut pattern_text = [0; 16385];
     let mut log_text = [0; 65536];
     let mut log = [0; 7170];
@@ -10,6 +12,7 @@ fn main() {
     let mut work = [0; 16384];
     let mut output = [0; 65536];
     let printed = judge_files::run(
+        &rt,
         b"pattern.txt",
         b"log.txt",
         &mut pattern_text,
@@ -21,5 +24,5 @@ fn main() {
         &mut output,
     );
     let length = printed.length;
-    io::write_all(libc::STDOUT_FILENO, &output[..length]);
+    rt.write_all(&output[..length])
 }

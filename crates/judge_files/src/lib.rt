@@ -10,6 +10,7 @@ ghost use Rattle.judge_files.specs.Output.{AtFront};
 
 use answer::Answer;
 use loading::load;
+use std::rt::Files;
 
 // The answer, and how many bytes of the output there are to print.
 #[derive(Clone, Copy)]
@@ -23,6 +24,7 @@ pub struct Output {
 // log is not opened. Each text buffer is a byte longer than the longest text, so that a text that
 // is too long is seen.
 pub fn run(
+    rt: &impl Files,
     pattern_name: &[u8],
     log_name: &[u8],
     patterntext: &mut [u8; 16385],
@@ -38,6 +40,7 @@ pub fn run(
     ensures at_front { AtFront (output_text result.answer (beads_in pattern.new) (steps_in log.new) res.new) output.old result.length output.new }
 {
     let answer = judge_texts(
+        rt,
         pattern_name,
         log_name,
         patterntext,
@@ -58,6 +61,7 @@ pub fn run(
 }
 
 fn judge_texts(
+    rt: &impl Files,
     pattern_name: &[u8],
     log_name: &[u8],
     patterntext: &mut [u8],
@@ -69,14 +73,15 @@ fn judge_texts(
 ) -> Answer
     ensures { Run patterntext.new logtext.new pattern.old log.old res.old work.old result pattern.new log.new res.new work.new }
 {
-    let first = read_pattern_file(pattern_name, patterntext, pattern);
+    let first = read_pattern_file(rt, pattern_name, patterntext, pattern);
     if first.number == 0 {
-        return judge_log_file(log_name, logtext, pattern, log, res, work);
+        return judge_log_file(rt, log_name, logtext, pattern, log, res, work);
     }
     first
 }
 
 fn judge_log_file(
+    rt: &impl Files,
     name: &[u8],
     text: &mut [u8],
     pattern: &[u16],
@@ -86,24 +91,30 @@ fn judge_log_file(
 ) -> Answer
     ensures { LogJudged text.new pattern.now log.old res.old work.old result log.new res.new work.new }
 {
-    let read = read_log_file(name, text, pattern, log);
+    let read = read_log_file(rt, name, text, pattern, log);
     if read.number == 0 {
         return judging::judge(pattern, log, res, work);
     }
     read
 }
 
-fn read_pattern_file(name: &[u8], text: &mut [u8], pattern: &mut [u16]) -> Answer
+fn read_pattern_file(rt: &impl Files, name: &[u8], text: &mut [u8], pattern: &mut [u16]) -> Answer
     ensures { PatternRead text.new pattern.old result pattern.new }
 {
-    let n = load(name, text);
+    let n = load(rt, name, text);
     pattern::read_pattern(&text[..n], pattern)
 }
 
-fn read_log_file(name: &[u8], text: &mut [u8], pattern: &[u16], log: &mut [u16]) -> Answer
+fn read_log_file(
+    rt: &impl Files,
+    name: &[u8],
+    text: &mut [u8],
+    pattern: &[u16],
+    log: &mut [u16],
+) -> Answer
     ensures { LogRead text.new pattern.now log.old result log.new }
 {
-    let n = load(name, text);
+    let n = load(rt, name, text);
     log_reader::read_log(&text[..n], label_count(pattern), log)
 }
 
