@@ -1,7 +1,7 @@
 /* The run-in log judge, for C: five calls on numbers and lent buffers.
  *
- * Link librunin.a (`rt staticlib runin` writes target/staticlib/librunin.a). Every call ends, tests what it is lent, allocates nothing,
- * keeps nothing between calls and uses less than 64 KiB of stack. Lengths count elements, not bytes.
+ * Link librunin.a, whose path `bin/staticlib` prints: it proves and builds the library first where that is needed. Every call ends, tests
+ * what it is lent, allocates nothing, keeps nothing between calls and uses less than 64 KiB of stack. Lengths count elements, not bytes.
  *
  * What no contract covers: each pointer is valid for its length and aligned for its type, also where the length is 0 (use the address
  * of any object then, not NULL), and the buffers of one call do not overlap.
