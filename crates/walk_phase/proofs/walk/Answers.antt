@@ -1,8 +1,8 @@
 use Rattle.walk_phase.proofs.WalkLaws.{walks_first, walks_due, walks_done}
 use Rattle.walk_turn.proofs.TurnLaws.{begun_low, begun_most, begun_inside, begun_more, begun_up, begun_step, begun_in, walks_on, seek_none, seek_on, stop_serving, stop_end, next_less}
-use mathlib.Core.Logic.{⊎_elim}
 use borrow.Author.Rules.{rules}
 use Rattle.walk_phase.proofs.walk.Goals as goal
+use Rattle.walk_phase.proofs.walk.Goals.{else-loop-u-test, then-loop-u-test+then-serves}
 
 pub loop-turn-init : goal.loop-turn-init
 loop-turn-init c = (search rules, search rules, search rules, search rules, search rules, search (rules, walks_first))
@@ -23,7 +23,25 @@ pub loop-turn-smaller : goal.loop-turn-smaller
 loop-turn-smaller c = search (rules, next_less)
 
 pub loop-turn-preserved : goal.loop-turn-preserved
-loop-turn-preserved c = (search rules, search rules, search rules, search rules, search rules, walks_on c.before.before.before.before.before.loop2.invariant.9 c.before.before.before.before.before.loop2.invariant.10 (⊎_elim (λ w. search (rules, stop_end)) (λ w. search (rules, stop_serving)) c.before.before.before.before.loop2-test.branch) (search rules) (search rules) (search rules))
+loop-turn-preserved c =
+    let begun = c.loop-u.invariant.9 in
+    let none = c.loop-u.invariant.10 in (
+      search rules,
+      search rules,
+      search rules,
+      search rules,
+      search rules,
+      walks_on
+          begun
+          none
+          (elim c.loop-u-test.branch [
+            | else-loop-u-test w ↦ search (rules, stop_end)
+            | then-loop-u-test+then-serves w ↦ search (rules, stop_serving)
+          ])
+          (search rules)
+          (search rules)
+          (search rules),
+    )
 
 pub returns : goal.returns
 returns c = search (rules, walks_done)
