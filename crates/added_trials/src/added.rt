@@ -89,7 +89,7 @@ fn judge_one(pattern: &[u16], log: &[u16], res: &mut [u16], at: usize, counts: &
 }
 
 fn place(at: usize, i: usize) -> usize {
-    std::num::wrapping_add_usize(at, i)
+    at.wrapping_add(i)
 }
 
 fn compare_rows(some: bool, n: u16, one: &[u16], two: &[u16], at: usize, counts: &mut [u64]) {

@@ -42,7 +42,7 @@ fn more_labels(old: u16, added: u16) -> u16 {
 
 // A step smaller than w, or w itself where no ninth link fits.
 fn extra_link(log: &[u16], w: u16, x: u16) -> u16 {
-    let links = std::num::wrapping_sub_u16(places::links_end(log, w), places::links_start(log, w));
+    let links = places::links_end(log, w).wrapping_sub(places::links_start(log, w));
     if links > 7 {
         return w;
     }

@@ -1,15 +1,16 @@
 // What the judge left in the result and work buffers, which were all marks before it: what was to be kept, and what was to be 0.
+use std::io;
 
 // After a refusal.
-pub fn print_unchanged(res: &[u16], work: &[u16]) {
-    outcome::print_claim(b"; result kept", outcome::is_marked(res));
-    outcome::print_claim(b", work kept", outcome::is_marked(work));
+pub fn print_unchanged(rt: &impl Print, res: &[u16], work: &[u16]) -> io::Result<()> {
+    outcome::print_claim(rt, b"; result kept", outcome::is_marked(res))?;
+    outcome::print_claim(rt, b", work kept", outcome::is_marked(work))
 }
 
 // After number 0.
-pub fn print_work(work: &[u16]) {
-    outcome::print_claim(b", work 0", is_zero(work, 0, 16384));
-    outcome::print_claim(b", guard kept", is_guarded(work, 16384));
+pub fn print_work(rt: &impl Print, work: &[u16]) -> io::Result<()> {
+    outcome::print_claim(rt, b", work 0", is_zero(work, 0, 16384))?;
+    outcome::print_claim(rt, b", guard kept", is_guarded(work, 16384))
 }
 
 // Are the numbers from one index up to another all 0?

@@ -9,104 +9,117 @@
 #![tactic(auto)]
 
 use answer::Answer;
+use std::io;
+use std::rt::Files;
 
 mod calls;
 mod kept;
 mod rows;
 
-fn main() {
+fn main(rt: HostRuntime) -> io::Result<()> {
     let mut file = [0u8; 65536];
-    let n = trial::load(b"cases.txt", &mut file);
-    try_cases(&file[..n]);
+    let n = trial::load(&rt, b"cases.txt", &mut file);
+    try_cases(&rt, &file[..n])
 }
 
-fn try_cases(file: &[u8]) {
+fn try_cases(rt: &(impl Files + Print), file: &[u8]) -> io::Result<()> {
     let mut counts = [0u16; 32];
     let mut at = 0;
     while at < file.len() {
         let end = trial::find_byte(file, at, b'\n');
-        let number = try_case(trial::part(file, at, end));
+        let number = try_case(rt, trial::part(file, at, end))?;
         outcome::tally(&mut counts, number);
         at = end + 1;
     }
-    outcome::print_tally(&counts);
+    outcome::print_tally(rt, &counts)
 }
 
 // Reads both texts, damages what they gave, and judges it, up to the first refusal.
-fn try_case(line: &[u8]) -> u16 {
+fn try_case(rt: &(impl Files + Print), line: &[u8]) -> io::Result<u16> {
     let mut pattern = [0u16; 2080];
-    outcome::print_bytes(trial::column(line, 0));
-    let a = read_pattern(trial::column(line, 1), &mut pattern);
+    outcome::print_bytes(rt, trial::column(line, 0))?;
+    let a = read_pattern(rt, trial::column(line, 1), &mut pattern);
     if a.number > 0 {
-        return print_refused(b": pattern reader", a, &pattern);
+        return print_refused(rt, b": pattern reader", a, &pattern);
     }
-    try_log(line, &mut pattern)
+    try_log(rt, line, &mut pattern)
 }
 
-fn try_log(line: &[u8], pattern: &mut [u16]) -> u16 {
+fn try_log(rt: &(impl Files + Print), line: &[u8], pattern: &mut [u16]) -> io::Result<u16> {
     let mut log = [0u16; 7176];
     let settings = trial::column(line, 3);
     let labels = settings::value(settings, b'c', trial::get(pattern, 0));
-    let a = read_log(trial::column(line, 2), labels, &mut log);
+    let a = read_log(rt, trial::column(line, 2), labels, &mut log);
     if a.number > 0 {
-        return print_refused(b": log reader", a, &log);
+        return print_refused(rt, b": log reader", a, &log);
     }
-    try_damaged(settings, pattern, &mut log)
+    try_damaged(rt, settings, pattern, &mut log)
 }
 
-fn try_damaged(settings: &[u8], pattern: &mut [u16], log: &mut [u16]) -> u16 {
+fn try_damaged(
+    rt: &impl Print,
+    settings: &[u8],
+    pattern: &mut [u16],
+    log: &mut [u16],
+) -> io::Result<u16> {
     settings::damage(settings, b'p', pattern);
     settings::damage(settings, b'l', log);
-    try_judge(settings, pattern, log)
+    try_judge(rt, settings, pattern, log)
 }
 
-fn read_pattern(script: &[u8], pattern: &mut [u16]) -> Answer {
+fn read_pattern(rt: &impl Files, script: &[u8], pattern: &mut [u16]) -> Answer {
     let mut text = [0u8; 17000];
-    let n = script::load(script, b"pattern.txt", &mut text);
+    let n = script::load(rt, script, b"pattern.txt", &mut text);
     outcome::mark(pattern);
     calls::read_pattern(&text[..n], pattern)
 }
 
-fn read_log(script: &[u8], labels: u16, log: &mut [u16]) -> Answer {
+fn read_log(rt: &impl Files, script: &[u8], labels: u16, log: &mut [u16]) -> Answer {
     let mut text = [0u8; 66000];
-    let n = script::load(script, b"log.txt", &mut text);
+    let n = script::load(rt, script, b"log.txt", &mut text);
     outcome::mark(log);
     calls::read_log(&text[..n], labels, log)
 }
 
 // The refusal of a reader whose buffer was all marks.
-fn print_refused(who: &[u8], a: Answer, buffer: &[u16]) -> u16 {
-    outcome::print_call(who, a.number, a.line, a.byte, a.count, buffer);
-    a.number
+fn print_refused(rt: &impl Print, who: &[u8], a: Answer, buffer: &[u16]) -> io::Result<u16> {
+    outcome::print_call(rt, who, a.number, a.line, a.byte, a.count, buffer)?;
+    Ok(a.number)
 }
 
 // Judges, and compares sums of the two buffers that the judge only reads.
-fn try_judge(settings: &[u8], pattern: &[u16], log: &[u16]) -> u16 {
+fn try_judge(rt: &impl Print, settings: &[u8], pattern: &[u16], log: &[u16]) -> io::Result<u16> {
     let p = outcome::sum_of_sums(pattern);
     let l = outcome::sum_of_sums(log);
-    let number = judge(settings, pattern, log);
-    outcome::print_claim(b", pattern kept", outcome::sum_of_sums(pattern) == p);
-    outcome::print_claim(b", log kept\n", outcome::sum_of_sums(log) == l);
-    number
+    let number = judge(rt, settings, pattern, log)?;
+    outcome::print_claim(rt, b", pattern kept", outcome::sum_of_sums(pattern) == p)?;
+    outcome::print_claim(rt, b", log kept\n", outcome::sum_of_sums(log) == l)?;
+    Ok(number)
 }
 
-fn judge(settings: &[u8], pattern: &[u16], log: &[u16]) -> u16 {
+fn judge(rt: &impl Print, settings: &[u8], pattern: &[u16], log: &[u16]) -> io::Result<u16> {
     let mut result = [0u16; 10246];
     let mut work = [0u16; 16390];
     outcome::mark(&mut result);
     outcome::mark(&mut work);
     let a = lend(settings, pattern, log, &mut result, &mut work);
-    print_judged(a, trial::get(log, 0), &result, &work);
-    a.number
+    print_judged(rt, a, trial::get(log, 0), &result, &work)?;
+    Ok(a.number)
 }
 
-fn print_judged(a: Answer, steps: u16, res: &[u16], work: &[u16]) {
-    outcome::print_answer(b": judge", a.number, a.line, a.byte, a.count);
+fn print_judged(
+    rt: &impl Print,
+    a: Answer,
+    steps: u16,
+    res: &[u16],
+    work: &[u16],
+) -> io::Result<()> {
+    outcome::print_answer(rt, b": judge", a.number, a.line, a.byte, a.count)?;
     if a.number > 0 {
-        kept::print_unchanged(res, work);
+        kept::print_unchanged(rt, res, work)
     } else {
-        rows::print_rows(steps, res);
-        kept::print_work(work);
+        rows::print_rows(rt, steps, res)?;
+        kept::print_work(rt, work)
     }
 }
 

@@ -2,47 +2,50 @@
 ghost use Rattle.std.specs.Prelude.{◌≤◌};
 
 use crate::kept::{is_guarded, is_zero};
+use std::io;
 
 // The rows, ` v:prefixes:p0,p1` and so on; of a log of more than 16 steps the sum of sums of the 10240 numbers in their place.
-pub fn print_rows(steps: u16, res: &[u16]) {
+pub fn print_rows(rt: &impl Print, steps: u16, res: &[u16]) -> io::Result<()> {
     if steps > 16 {
-        print_sum(res);
+        print_sum(rt, res)?;
     } else {
-        outcome::print_bytes(b" rows");
-        print_each(steps, res);
+        outcome::print_bytes(rt, b" rows")?;
+        print_each(rt, steps, res)?;
     }
-    outcome::print_claim(b"; rest 0", is_zero(res, place(steps, 0), 10240));
-    outcome::print_claim(b", guard kept", is_guarded(res, 10240));
+    outcome::print_claim(rt, b"; rest 0", is_zero(res, place(steps, 0), 10240))?;
+    outcome::print_claim(rt, b", guard kept", is_guarded(res, 10240))
 }
 
-fn print_sum(res: &[u16]) {
+fn print_sum(rt: &impl Print, res: &[u16]) -> io::Result<()> {
     let n = trial::lent(10240, res.len());
-    outcome::print_sum(&res[..n]);
+    outcome::print_sum(rt, &res[..n])
 }
 
-fn print_each(steps: u16, res: &[u16]) {
+fn print_each(rt: &impl Print, steps: u16, res: &[u16]) -> io::Result<()> {
     let mut v = 0;
     while v < steps {
-        print_row(v, res);
+        print_row(rt, v, res)?;
         v += 1;
     }
+    Ok(())
 }
 
-fn print_row(v: u16, res: &[u16]) {
-    outcome::print_after(b" ", v);
+fn print_row(rt: &impl Print, v: u16, res: &[u16]) -> io::Result<()> {
+    outcome::print_after(rt, b" ", v)?;
     let n = last_used(v, res);
     let mut i = 0;
     while i <= n {
-        print_place(i, trial::get(res, place(v, i)));
+        print_place(rt, i, trial::get(res, place(v, i)))?;
         i += 1;
     }
+    Ok(())
 }
 
-fn print_place(i: u16, n: u16) {
+fn print_place(rt: &impl Print, i: u16, n: u16) -> io::Result<()> {
     if i < 2 {
-        outcome::print_after(b":", n);
+        outcome::print_after(rt, b":", n)
     } else {
-        outcome::print_after(b",", n);
+        outcome::print_after(rt, b",", n)
     }
 }
 

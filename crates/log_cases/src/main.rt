@@ -5,39 +5,41 @@
 #![tactic(auto)]
 
 use answer::Answer;
+use std::io;
 
-fn main() {
+fn main(rt: HostRuntime) -> io::Result<()> {
     let mut file = [0u8; 32768];
-    let n = trial::load(b"cases.txt", &mut file);
-    try_cases(&file[..n]);
+    let n = trial::load(&rt, b"cases.txt", &mut file);
+    try_cases(&rt, &file[..n])
 }
 
-fn try_cases(file: &[u8]) {
+fn try_cases(rt: &impl Print, file: &[u8]) -> io::Result<()> {
     let mut counts = [0u16; 32];
     let mut at = 0;
     while at < file.len() {
         let end = trial::find_byte(file, at, b'\n');
-        let number = try_case(trial::part(file, at, end));
+        let number = try_case(rt, trial::part(file, at, end))?;
         outcome::tally(&mut counts, number);
         at = end + 1;
     }
-    outcome::print_tally(&counts);
+    outcome::print_tally(rt, &counts)
 }
 
 // The answer's numbers, and what the call left in the buffer.
-fn try_case(line: &[u8]) -> u16 {
+fn try_case(rt: &impl Print, line: &[u8]) -> io::Result<u16> {
     let mut buffer = [0u16; 7176];
     outcome::mark(&mut buffer);
     let a = read_case(line, &mut buffer);
     outcome::print_call(
+        rt,
         trial::column(line, 0),
         a.number,
         a.line,
         a.byte,
         a.count,
         &buffer,
-    );
-    a.number
+    )?;
+    Ok(a.number)
 }
 
 fn read_case(line: &[u8], buffer: &mut [u16]) -> Answer {

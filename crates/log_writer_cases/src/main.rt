@@ -9,56 +9,67 @@
 // uses, marks.
 #![tactic(auto)]
 
+use std::io;
+use std::rt::Files;
+
 mod calls;
 mod lend;
 mod written;
 
 const OTHER_COUNT: usize = 15;
 
-fn main() {
+fn main(rt: HostRuntime) -> io::Result<()> {
     let mut kinds = [0u64; 16];
-    try_file(b"cases.txt", &mut kinds);
-    try_file(b"texts.txt", &mut kinds);
-    text_room::print_kinds(&kinds);
+    try_file(&rt, b"cases.txt", &mut kinds)?;
+    try_file(&rt, b"texts.txt", &mut kinds)?;
+    text_room::print_kinds(&rt, &kinds)
 }
 
-fn try_file(path: &[u8], kinds: &mut [u64]) {
+fn try_file(rt: &(impl Files + Print), path: &[u8], kinds: &mut [u64]) -> io::Result<()> {
     let mut file = [0u8; 65536];
-    let n = trial::load(path, &mut file);
-    try_cases(&file[..n], kinds);
+    let n = trial::load(rt, path, &mut file);
+    try_cases(rt, &file[..n], kinds)
 }
 
-fn try_cases(file: &[u8], kinds: &mut [u64]) {
+fn try_cases(rt: &(impl Files + Print), file: &[u8], kinds: &mut [u64]) -> io::Result<()> {
     let mut at = 0;
     while at < file.len() {
         let end = trial::find_byte(file, at, b'\n');
-        try_case(trial::part(file, at, end), kinds);
+        try_case(rt, trial::part(file, at, end), kinds)?;
         at = end + 1;
     }
+    Ok(())
 }
 
-fn try_case(line: &[u8], kinds: &mut [u64]) {
+fn try_case(rt: &(impl Files + Print), line: &[u8], kinds: &mut [u64]) -> io::Result<()> {
     let mut text = [0u8; 66000];
-    let n = script::load(trial::column(line, 2), b"log.txt", &mut text);
-    read_text(line, &text[..n], kinds);
+    let n = script::load(rt, trial::column(line, 2), b"log.txt", &mut text);
+    read_text(rt, line, &text[..n], kinds)
 }
 
 // A text that the reader refuses gives no room.
-fn read_text(line: &[u8], text: &[u8], kinds: &mut [u64]) {
+fn read_text(rt: &impl Print, line: &[u8], text: &[u8], kinds: &mut [u64]) -> io::Result<()> {
     let mut log = [0u16; 7176];
     outcome::mark(&mut log);
     let labels = trial::small_number(trial::column(line, 1));
     let a = calls::read_log(text, labels, &mut log);
     if a.number > 0 {
         text_room::count_unread(kinds);
-        return;
+        return Ok(());
     }
     text_room::change(trial::column(line, 3), b'l', &mut log, kinds);
-    write(line, text, labels, &log, kinds);
+    write(rt, line, text, labels, &log, kinds)
 }
 
-fn write(line: &[u8], text: &[u8], labels: u16, log: &[u16], kinds: &mut [u64]) {
+fn write(
+    rt: &impl Print,
+    line: &[u8],
+    text: &[u8],
+    labels: u16,
+    log: &[u16],
+    kinds: &mut [u64],
+) -> io::Result<()> {
     let handed = settings::value(trial::column(line, 3), b'c', labels);
     tallies::add_if(kinds, OTHER_COUNT, handed != labels);
-    written::try_write(line, text, handed, log, kinds);
+    written::try_write(rt, line, text, handed, log, kinds)
 }

@@ -17,7 +17,7 @@ pub fn fill_front(beads: u16, on: &[u16], begun: &[u16], v: u16, row: &mut [u16]
 // Bit k at step u is set if the beads after the first k lead from u to v. At v the bit of all beads, after which none
 // is left, is given.
 fn fill_left(on: &[u16], v: u16, left: &mut [u16]) {
-    let mut u = std::num::wrapping_add_u16(v, 1);
+    let mut u = v.wrapping_add(1);
     while 0 < u {
         u -= 1;
         let l = get(left, u as usize) | left_later(on, left, u, v);
@@ -60,7 +60,7 @@ fn fill_from_front(beads: u16, on: &[u16], left: &[u16], v: u16, row: &mut [u16]
 // The smallest step, up to v, that bead k + 1 reaches from u and from which the beads after it lead to v; no step's number where there
 // is none.
 fn smallest_on(on: &[u16], left: &[u16], k: u16, u: u16, v: u16) -> u16 {
-    let end = std::num::wrapping_add_u16(v, 1);
+    let end = v.wrapping_add(1);
     let mut w = 0;
     while w < end {
         if has((get(left, w as usize) >> 1) & get(on, place(u, w)), k) {

@@ -27,7 +27,7 @@ fn fill_pivots(beads: u16, on: &[u16], begun: &[u16], v: u16, rows: &mut [u16], 
 // The smallest step, up to v, at which the first k beads hold and from which the next one reaches v; no step's number where there is
 // none.
 fn smallest(on: &[u16], begun: &[u16], k: u16, v: u16) -> u16 {
-    let end = std::num::wrapping_add_u16(v, 1);
+    let end = v.wrapping_add(1);
     let mut u = 0;
     while u < end {
         if has(get(begun, u as usize) & get(on, place(u, v)), k) {

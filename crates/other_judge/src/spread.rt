@@ -28,7 +28,7 @@ fn mark_routes(log: &[u16], u: u16, on: &mut [u16]) {
     put(&mut reached, u as usize, 1);
     mark_if(on, u, u, 15, true);
     let n = places::step_count(log);
-    let mut w = std::num::wrapping_add_u16(u, 1);
+    let mut w = u.wrapping_add(1);
     while w < n {
         let r = brought(log, w, &reached);
         put(&mut reached, w as usize, r);
@@ -43,7 +43,7 @@ fn mark_bead(pattern: &[u16], log: &[u16], bead: u16, u: u16, on: &mut [u16]) {
     put(&mut states, u as usize, 1);
     mark_if(on, u, u, bead, holds(pattern, bead, true, 1));
     let n = places::step_count(log);
-    let mut w = std::num::wrapping_add_u16(u, 1);
+    let mut w = u.wrapping_add(1);
     while w < n {
         let s = entered(
             pattern,

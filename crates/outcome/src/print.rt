@@ -1,38 +1,38 @@
-// Bytes and numbers on standard output. A failed write is passed over.
-use libc::STDOUT_FILENO;
+// Bytes and numbers on standard output.
+use std::io;
 
-pub fn print_bytes(bytes: &[u8]) {
-    io::write_all(STDOUT_FILENO, bytes);
+pub fn print_bytes(rt: &impl Print, bytes: &[u8]) -> io::Result<()> {
+    rt.write_all(bytes)
 }
 
-pub fn print_number(n: u64) {
-    io::print_decimal(STDOUT_FILENO, n);
+pub fn print_number(rt: &impl Print, n: u64) -> io::Result<()> {
+    rt.print(n)
 }
 
 // The bytes and a line end.
-pub fn print_line(bytes: &[u8]) {
-    print_bytes(bytes);
-    print_bytes(b"\n");
+pub fn print_line(rt: &impl Print, bytes: &[u8]) -> io::Result<()> {
+    print_bytes(rt, bytes)?;
+    print_bytes(rt, b"\n")
 }
 
 // The bytes and a number.
-pub fn print_after(bytes: &[u8], n: u16) {
-    print_bytes(bytes);
-    print_number(n as u64);
+pub fn print_after(rt: &impl Print, bytes: &[u8], n: u16) -> io::Result<()> {
+    print_bytes(rt, bytes)?;
+    print_number(rt, n as u64)
 }
 
 // The line `name: n`.
-pub fn print_count(name: &[u8], n: u64) {
-    print_bytes(name);
-    print_bytes(b": ");
-    print_number(n);
-    print_bytes(b"\n");
+pub fn print_count(rt: &impl Print, name: &[u8], n: u64) -> io::Result<()> {
+    print_bytes(rt, name)?;
+    print_bytes(rt, b": ")?;
+    print_number(rt, n)?;
+    print_bytes(rt, b"\n")
 }
 
 // A claim that fails is printed with a word more.
-pub fn print_claim(claim: &[u8], holds: bool) {
+pub fn print_claim(rt: &impl Print, claim: &[u8], holds: bool) -> io::Result<()> {
     if !holds {
-        print_bytes(b" FAILS:");
+        print_bytes(rt, b" FAILS:")?;
     }
-    print_bytes(claim);
+    print_bytes(rt, claim)
 }

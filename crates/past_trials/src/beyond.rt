@@ -60,7 +60,7 @@ fn change(pattern: &[u16], log: &[u16], v: u16, from: Random, counts: &mut [u64]
     changed_logs::mark_past(log, v, &mut past);
     let size = from.next();
     let labels = places::label_count(pattern);
-    let steps = std::num::wrapping_add_u16(v, 1 + size.below(21) as u16);
+    let steps = v.wrapping_add(1 + size.below(21) as u16);
     let r = changed_logs::change_beyond(log, &past, steps, labels, &mut second, size);
     judge_both(pattern, log, &second, &past, counts);
     r
@@ -104,10 +104,6 @@ fn compare_row(beads: u16, w: u16, within: bool, one: &[u16], two: &[u16], count
     let prefixes = get(one, tallies::row_place(w) as usize);
     add(counts, ROWS, 1);
     add_if(counts, MARKED, prefixes != 0);
-    add_if(
-        counts,
-        WHOLE,
-        places::has(prefixes, std::num::wrapping_sub_u16(beads, 1)),
-    );
+    add_if(counts, WHOLE, places::has(prefixes, beads.wrapping_sub(1)));
     add_if(counts, DIFFERING, !same);
 }

@@ -7,47 +7,57 @@
 #![tactic(auto)]
 
 use answer::Answer;
+use std::io;
+use std::rt::Files;
 
-fn main() {
-    try_file(b"cases.txt");
-    try_file(b"finals.txt");
+fn main(rt: HostRuntime) -> io::Result<()> {
+    try_file(&rt, b"cases.txt")?;
+    try_file(&rt, b"finals.txt")
 }
 
-fn try_file(path: &[u8]) {
+fn try_file(rt: &(impl Files + Print), path: &[u8]) -> io::Result<()> {
     let mut file = [0u8; 32768];
-    let n = trial::load(path, &mut file);
-    try_cases(&file[..n]);
+    let n = trial::load(rt, path, &mut file);
+    try_cases(rt, &file[..n])
 }
 
-fn try_cases(file: &[u8]) {
+fn try_cases(rt: &impl Print, file: &[u8]) -> io::Result<()> {
     let mut counts = [0u16; 32];
     let mut at = 0;
     while at < file.len() {
         let end = trial::find_byte(file, at, b'\n');
-        let number = try_case(trial::part(file, at, end));
+        let number = try_case(rt, trial::part(file, at, end))?;
         outcome::tally(&mut counts, number);
         at = end + 1;
     }
-    outcome::print_tally(&counts);
+    outcome::print_tally(rt, &counts)
 }
 
 // The answer's numbers, and what the call left in the buffer.
-fn try_case(line: &[u8]) -> u16 {
+fn try_case(rt: &impl Print, line: &[u8]) -> io::Result<u16> {
     let mut buffer = [0u16; 2080];
     outcome::mark(&mut buffer);
     let a = read_case(line, &mut buffer);
-    outcome::print_answer(trial::column(line, 0), a.number, a.line, a.byte, a.count);
-    outcome::print_buffer(a.number, &buffer);
-    print_final(trial::small_number(trial::column(line, 3)), &buffer);
-    outcome::print_line(b"");
-    a.number
+    outcome::print_answer(
+        rt,
+        trial::column(line, 0),
+        a.number,
+        a.line,
+        a.byte,
+        a.count,
+    )?;
+    outcome::print_buffer(rt, a.number, &buffer)?;
+    print_final(rt, trial::small_number(trial::column(line, 3)), &buffer)?;
+    outcome::print_line(rt, b"")?;
+    Ok(a.number)
 }
 
 // The final set of the bead, where there is one.
-fn print_final(bead: u16, buffer: &[u16]) {
+fn print_final(rt: &impl Print, bead: u16, buffer: &[u16]) -> io::Result<()> {
     if bead > 0 {
-        outcome::print_after(b", final set ", trial::get(buffer, 17 + bead as usize));
+        outcome::print_after(rt, b", final set ", trial::get(buffer, 17 + bead as usize))?;
     }
+    Ok(())
 }
 
 fn read_case(line: &[u8], buffer: &mut [u16]) -> Answer {

@@ -3,13 +3,15 @@
 // kind; `names.txt` has the names of the counts.
 #![tactic(auto)]
 
+use std::io;
+
 mod changed;
 mod rooms;
 
-fn main() {
+fn main(rt: HostRuntime) -> io::Result<()> {
     let mut names = [0u8; 1024];
     let mut counts = [0u64; 22];
-    let n = trial::load(b"names.txt", &mut names);
+    let n = trial::load(&rt, b"names.txt", &mut names);
     rooms::try_rooms(4000, &mut counts);
-    tallies::print_counts(&names[..n], &counts);
+    tallies::print_counts(&rt, &names[..n], &counts)
 }

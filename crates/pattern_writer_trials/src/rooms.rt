@@ -51,7 +51,7 @@ fn put_header(labels: u16, first: u64, header: &mut [u8]) -> usize {
     let mut n = put_words(header);
     let mut i = 0;
     while i < labels {
-        n = put_name(header, n, std::num::wrapping_add_u64(first, i as u64));
+        n = put_name(header, n, first.wrapping_add(i as u64));
         i += 1;
     }
     trial::append_byte(header, n, b'\n')

@@ -45,7 +45,7 @@ pub fn link(log: &[u16], i: u16) -> u16 {
 pub fn add_step(log: &mut [u16], labels: u16, board: u16) {
     let step = get(log, 0);
     let links = get(log, 2049 + step as usize);
-    put(log, 0, std::num::wrapping_add_u16(step, 1));
+    put(log, 0, step.wrapping_add(1));
     put(log, 1 + step as usize, labels);
     put(log, 1025 + step as usize, board);
     put(log, 2050 + step as usize, links);
@@ -56,11 +56,7 @@ pub fn add_link(log: &mut [u16], from: u16) {
     let steps = get(log, 0);
     let links = get(log, 2049 + steps as usize);
     put(log, 3074 + links as usize, from);
-    put(
-        log,
-        2049 + steps as usize,
-        std::num::wrapping_add_u16(links, 1),
-    );
+    put(log, 2049 + steps as usize, links.wrapping_add(1));
 }
 
 pub fn label_count(pattern: &[u16]) -> u16 {

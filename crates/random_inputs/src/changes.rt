@@ -4,11 +4,7 @@ use trial::{get, put};
 // Adds the power of two to the number at this place, modulo 65536.
 pub fn add_power(room: &mut [u16], place: usize, power: u16) {
     let old = get(room, place);
-    put(
-        room,
-        place,
-        std::num::wrapping_add_u16(old, places::only(power)),
-    );
+    put(room, place, old.wrapping_add(places::only(power)));
 }
 
 // The remainder of a draw; 0 where n is 0.

@@ -65,5 +65,5 @@ pub fn one_label(labels: u16, x: u16) -> u16 {
 }
 
 pub fn any_labels(labels: u16, x: u16) -> u16 {
-    x & std::num::wrapping_sub_u16(only(labels), 1)
+    x & only(labels).wrapping_sub(1)
 }

@@ -99,7 +99,7 @@ fn state_count(shape: u64, size: u16) -> u16 {
 
 // All states below n.
 fn all_below(n: u16) -> u16 {
-    std::num::wrapping_sub_u16(only(n), 1)
+    only(n).wrapping_sub(1)
 }
 
 // The set of the one state below n that a number gives.

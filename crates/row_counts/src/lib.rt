@@ -44,15 +44,12 @@ fn judge_rows(
     rows: &mut [u16],
     counts: &mut [u64],
 ) -> u16 {
-    let mut whole = 0;
+    let mut whole = 0u16;
     let mut v = 0;
     while v < n {
         other_judge::fill_row(beads, on, begun, v, rows, row_place(v));
         count_bits(v, get(rows, row_place(v) as usize), counts);
-        whole = std::num::wrapping_add_u16(
-            whole,
-            count_whole(beads, on, begun, v, res, rows, counts),
-        );
+        whole = whole.wrapping_add(count_whole(beads, on, begun, v, res, rows, counts));
         v += 1;
     }
     whole

@@ -49,7 +49,7 @@ fn read_index(rest: &[u8], index: u64) -> Item {
 // The index plus a number, or less a number, or 0 where that would be negative.
 fn moved(index: u64, letter: u8, k: u64) -> u64 {
     if letter == b'i' {
-        return std::num::wrapping_add_u64(index, k);
+        return index.wrapping_add(k);
     }
     if index < k {
         return 0;

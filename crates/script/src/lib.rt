@@ -7,7 +7,9 @@
 // begins none of these stands for itself.
 #![tactic(auto)]
 
-ghost use Rattle.io.specs.Counts.{IsPrefixLen};
+ghost use Rattle.std.specs.Prelude.{◌≤◌, length};
+
+use std::rt::Files;
 
 mod bodies;
 mod items;
@@ -16,11 +18,11 @@ mod repeats;
 pub use repeats::expand;
 
 // The file where the script is `=`, or else what the script expands to.
-pub fn load(script: &[u8], path: &[u8], text: &mut [u8]) -> usize
-    ensures { IsPrefixLen result text.new }
+pub fn load(rt: &impl Files, script: &[u8], path: &[u8], text: &mut [u8]) -> usize
+    ensures { result ≤ length text.new }
 {
     if trial::get_byte(script, 0) == b'=' {
-        return trial::load(path, text);
+        return trial::load(rt, path, text);
     }
     expand(script, text)
 }

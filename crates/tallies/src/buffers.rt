@@ -3,12 +3,12 @@ use trial::{get, put};
 
 // How many of n numbers differ, of one buffer from an index on and of another.
 pub fn differing(a: &[u16], at: u16, b: &[u16], from: u16, n: u16) -> u64 {
-    let mut all = 0;
+    let mut all = 0u64;
     let mut i = 0;
     while i < n {
         let x = get(a, at as usize + i as usize);
         let y = get(b, from as usize + i as usize);
-        all = std::num::wrapping_add_u64(all, unlike(x, y));
+        all = all.wrapping_add(unlike(x, y));
         i += 1;
     }
     all
@@ -37,7 +37,7 @@ pub fn fill_noise(s: &mut [u16], from: u16) {
     let mut x = from;
     let mut i = 0;
     while i < s.len() {
-        x = std::num::wrapping_add_u16(x, 40503);
+        x = x.wrapping_add(40503);
         put(s, i, x);
         i += 1;
     }

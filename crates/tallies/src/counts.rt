@@ -1,8 +1,9 @@
 // Counts of what was tried, each at an index of its own.
+use std::io;
 
 pub fn add(counts: &mut [u64], i: usize, n: u64) {
     if i < counts.len() {
-        counts[i] = std::num::wrapping_add_u64(counts[i], n);
+        counts[i] = counts[i].wrapping_add(n);
     }
 }
 
@@ -13,15 +14,16 @@ pub fn add_if(counts: &mut [u64], i: usize, ok: bool) {
 }
 
 // A line for each line of `names`: the name, and the count with the line's index.
-pub fn print_counts(names: &[u8], counts: &[u64]) {
-    let mut i = 0;
+pub fn print_counts(rt: &impl Print, names: &[u8], counts: &[u64]) -> io::Result<()> {
+    let mut i = 0usize;
     let mut at = 0;
     while at < names.len() {
         let end = trial::find_byte(names, at, b'\n');
-        outcome::print_count(trial::part(names, at, end), count_of(counts, i));
-        i = std::num::wrapping_add_usize(i, 1);
+        outcome::print_count(rt, trial::part(names, at, end), count_of(counts, i))?;
+        i = i.wrapping_add(1);
         at = end + 1;
     }
+    Ok(())
 }
 
 pub fn count_of(counts: &[u64], i: usize) -> u64 {

@@ -40,7 +40,7 @@ fn draw_index(kind: u64, text: &[u8], from: Random) -> usize {
         return find_round(kind, trial::front(text, header), from);
     }
     let below = trial::part(text, header, text.len());
-    std::num::wrapping_add_usize(header, find_round(kind, below, from))
+    header.wrapping_add(find_round(kind, below, from))
 }
 
 // From a place drawn on, or from the start where there is none behind it.
@@ -56,18 +56,14 @@ fn later_index(kind: u64, text: &[u8], at: usize, again: u64) -> usize {
     if again == 0 {
         return text.len();
     }
-    find(kind, text, std::num::wrapping_add_usize(at, 1))
+    find(kind, text, at.wrapping_add(1))
 }
 
 // The first byte from an index on that this kind changes; the end where there is none.
 fn find(kind: u64, s: &[u8], from: usize) -> usize {
     let mut i = from;
     while i < s.len() {
-        if suits(
-            kind,
-            trial::get_byte(s, std::num::wrapping_sub_usize(i, 1)),
-            s[i],
-        ) {
+        if suits(kind, trial::get_byte(s, i.wrapping_sub(1)), s[i]) {
             return i;
         }
         i += 1;
@@ -106,5 +102,5 @@ fn bad_byte(x: u8) -> u8 {
     if x < 20 {
         return 13;
     }
-    std::num::wrapping_add_u8(x, 107)
+    x.wrapping_add(107)
 }

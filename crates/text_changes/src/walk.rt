@@ -54,10 +54,10 @@ fn walk(text: &[u8], at: usize) -> Spot {
 }
 
 fn past(spot: Spot, b: u8) -> Spot {
-    let place = std::num::wrapping_add_u16(spot.place, 1);
+    let place = spot.place.wrapping_add(1);
     match b {
         b'\n' => Spot {
-            line: std::num::wrapping_add_u16(spot.line, 1),
+            line: spot.line.wrapping_add(1),
             place: 1,
             field: 1,
         },

@@ -28,12 +28,12 @@ fn mark_at(i: usize) -> u8 {
 
 // The sum, modulo 4294967296, of s[0], s[0] + s[1], s[0] + s[1] + s[2], and so on.
 pub fn sum_of_sums(s: &[u8]) -> u32 {
-    let mut sum = 0;
-    let mut all = 0;
+    let mut sum = 0u32;
+    let mut all = 0u32;
     let mut i = 0;
     while i < s.len() {
-        sum = std::num::wrapping_add_u32(sum, wide(s[i]));
-        all = std::num::wrapping_add_u32(all, sum);
+        sum = sum.wrapping_add(wide(s[i]));
+        all = all.wrapping_add(sum);
         i += 1;
     }
     all

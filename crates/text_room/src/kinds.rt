@@ -1,5 +1,7 @@
 // Cases counted by kind and by answer, the same for each writer; behind these a program has kinds of its own.
 use crate::bytes::{is_same, sum_of_sums};
+use std::io;
+use std::rt::Files;
 use tallies::{add, add_if};
 
 const UNREAD: usize = 0;
@@ -59,40 +61,53 @@ pub fn lent(settings: &[u8]) -> usize {
 }
 
 // Does reading give the room's n numbers again?
-pub fn print_read(number: u16, room: &[u16], again: &[u16], n: u16, kinds: &mut [u64]) {
+pub fn print_read(
+    rt: &impl Print,
+    number: u16,
+    room: &[u16],
+    again: &[u16],
+    n: u16,
+    kinds: &mut [u64],
+) -> io::Result<()> {
     let same = tallies::differing(room, 0, again, 0, n) == 0;
-    outcome::print_claim(b", read", number == 0);
-    outcome::print_claim(b" back", same);
+    outcome::print_claim(rt, b", read", number == 0)?;
+    outcome::print_claim(rt, b" back", same)?;
     add_if(kinds, READ_BACK, same);
+    Ok(())
 }
 
 // Is it the text that gave the room? Another text is printed where it has at most 128 bytes.
-pub fn print_compared(text: &[u8], output: &[u8], kinds: &mut [u64]) {
+pub fn print_compared(
+    rt: &impl Print,
+    text: &[u8],
+    output: &[u8],
+    kinds: &mut [u64],
+) -> io::Result<()> {
     let same = is_same(text, output);
     add_if(kinds, SAME_TEXT, same);
-    print_sum(output);
+    print_sum(rt, output)?;
     if same {
-        outcome::print_line(b", the text that was read");
-        return;
+        return outcome::print_line(rt, b", the text that was read");
     }
-    outcome::print_line(b", another text");
-    print_short(output);
+    outcome::print_line(rt, b", another text")?;
+    print_short(rt, output)
 }
 
-fn print_sum(text: &[u8]) {
-    outcome::print_bytes(b", sum ");
-    outcome::print_number(sum_of_sums(text) as u64);
+fn print_sum(rt: &impl Print, text: &[u8]) -> io::Result<()> {
+    outcome::print_bytes(rt, b", sum ")?;
+    outcome::print_number(rt, sum_of_sums(text) as u64)
 }
 
-fn print_short(text: &[u8]) {
+fn print_short(rt: &impl Print, text: &[u8]) -> io::Result<()> {
     if text.len() <= 128 {
-        outcome::print_bytes(text);
+        outcome::print_bytes(rt, text)?;
     }
+    Ok(())
 }
 
 // `names.txt` has the names of the kinds.
-pub fn print_kinds(kinds: &[u64]) {
+pub fn print_kinds(rt: &(impl Files + Print), kinds: &[u64]) -> io::Result<()> {
     let mut names = [0u8; 1024];
-    let n = trial::load(b"names.txt", &mut names);
-    tallies::print_counts(&names[..n], kinds);
+    let n = trial::load(rt, b"names.txt", &mut names);
+    tallies::print_counts(rt, &names[..n], kinds)
 }

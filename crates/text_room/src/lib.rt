@@ -2,6 +2,8 @@
 // on; what a call left in it; cases counted by kind.
 #![tactic(auto)]
 
+use std::io;
+
 mod bytes;
 mod kinds;
 
@@ -14,10 +16,11 @@ pub fn written(buffer: &[u8], count: u16) -> &[u8] {
 }
 
 // Is every byte as it was, but for what was written? A refused call has count 0.
-pub fn print_kept(count: u16, buffer: &[u8]) {
-    outcome::print_claim(b", front kept", is_marked(buffer, 0, 8));
+pub fn print_kept(rt: &impl Print, count: u16, buffer: &[u8]) -> io::Result<()> {
+    outcome::print_claim(rt, b", front kept", is_marked(buffer, 0, 8))?;
     outcome::print_claim(
+        rt,
         b", rest kept",
         is_marked(buffer, 8 + count as usize, buffer.len()),
-    );
+    )
 }

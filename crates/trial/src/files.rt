@@ -1,18 +1,36 @@
 // Files of cases: a case a line, its columns parted by tabs.
 ghost use Rattle.std.specs.Prelude.{◌≡◌, ◌≤◌, ◌<◌, min, max, length};
-ghost use Rattle.io.specs.Counts.{IsPrefixLen};
 
-// The start of the file, as much as the buffer holds; nothing where it cannot be opened.
-pub fn load(path: &[u8], buf: &mut [u8]) -> usize
-    ensures { IsPrefixLen result buf.new }
+use std::fs::File;
+use std::io::Read;
+use std::rt::Files;
+
+// The start of the file, as much as the buffer holds; nothing where it cannot be opened, as where its
+// path is no text.
+pub fn load(rt: &impl Files, path: &[u8], buf: &mut [u8]) -> usize
+    ensures { result ≤ length buf.new }
 {
-    let fd = os::open_read(path);
-    if fd < 0 {
+    let Ok(path) = str::from_utf8(path) else {
         return 0;
+    };
+    match File::open(rt, path) {
+        Ok(mut file) => read_front(&mut file, buf),
+        Err(_) => 0,
     }
-    let n = io::read_full(fd, buf);
-    libc::close(fd);
-    n
+}
+
+// Reads until the buffer is full, the file ends or a read fails.
+fn read_front(file: &mut impl Read, buf: &mut [u8]) -> usize
+    ensures { result ≤ length buf.new }
+{
+    let mut done = 0;
+    while done < buf.len() {
+        match file.read(&mut buf[done..]) {
+            Ok(0) | Err(_) => return done,
+            Ok(n) => done += n,
+        }
+    }
+    done
 }
 
 // The first index from `from` on at which the byte stands; the end where there is none.

@@ -38,9 +38,16 @@ pub fn append_repeated(buf: &mut [u8], at: usize, b: u8, times: usize) -> usize 
     buf.len()
 }
 
-// The decimal digits of n.
+// The decimal digits of n, of which there are at most 20.
 pub fn append_number(buf: &mut [u8], at: usize, n: u64) -> usize {
     let mut digits = [0u8; 20];
-    let count = io::decimal(n, &mut digits);
-    append_bytes(buf, at, &digits[..count])
+    let mut left = n;
+    for i in (0..20).rev() {
+        digits[i] = b'0' + (left % 10) as u8;
+        left /= 10;
+        if left == 0 {
+            return append_bytes(buf, at, &digits[i..]);
+        }
+    }
+    append_bytes(buf, at, &digits)
 }
