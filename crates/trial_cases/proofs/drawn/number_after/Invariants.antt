@@ -1,9 +1,0 @@
--- `number_after` ends after count turns.
-use Prim.Native.Nat.{◌≤◌, ◌-◌}
-use Rattle.trial_cases.proofs.drawn.number_after.Given as goal
-
-abbrev pub invariant-loop-i : goal.invariant-loop-i
-invariant-loop-i l = l.i ≤ l.count
-
-abbrev pub decreases-loop-i : goal.decreases-loop-i
-decreases-loop-i l = l.count - l.i
