@@ -1,0 +1,11 @@
+-- `try_rooms`: a turn a room.
+use Prim.Native.Nat.{◌-◌}
+use lib.ListN.{length}
+use mathlib.Core.Path.{◌≡◌}
+use Rattle.log_writer_trials.proofs.rooms.try_rooms.Given as goal
+
+abbrev pub invariant-loop-i : goal.invariant-loop-i
+invariant-loop-i l = length l.counts ≡ length l.initial.counts
+
+abbrev pub decreases-loop-i : goal.decreases-loop-i
+decreases-loop-i l = l.rooms - l.i
