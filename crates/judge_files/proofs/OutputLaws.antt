@@ -1,22 +1,21 @@
 -- What is laid out at the front of the output, after the two files were read and judged. Assumes nothing.
-use Prim.Native.Nat.{ℕ, suc, ◌+◌, ◌*◌, ◌≤◌, ◌<◌}
-use mathlib.Core.Path.{◌≡◌, refl, sym, ap, ◌∙◌, subst}
-use mathlib.Core.Bool.{Bool, true, false, cond}
-use mathlib.Core.List.{List, [], ◌∷◌, ◌++◌}
+use Prim.Native.Nat.{ℕ, ◌*◌, ◌≤◌, ◌<◌}
+use mathlib.Core.Path.{◌≡◌, sym, ap, ◌∙◌, subst}
+use mathlib.Core.List.{List, ◌++◌}
 use native.Mathlib.Omega.{arith}
 use borrow.Author.Tests.{eq-eqb, ne_eqb}
 use lib.Dec.{T, eqb}
-use lib.ListN.{length, get_or, take, drop, length-append}
-use lib.Seq.{sets, sets-eq, length-sets, length-take-le}
+use lib.ListN.{length, get_or, drop}
+use lib.Seq.{sets-eq, length-sets, length-take-le}
 use Rattle.answer.specs.declared.Answer.{Answer}
 use Rattle.pattern_buffer.specs.Meaning.{beads_in}
 use Rattle.log_buffer.specs.Meaning.{steps_in}
-use Rattle.judging.specs.Judge.{judge_answer, accepts, result_after, work_after}
+use Rattle.judging.specs.Judge.{accepts, result_after}
 use Rattle.writing.specs.Put.{Put}
 use Rattle.report_lines.specs.Lines.{header_text, refusal_text}
 use Rattle.report.specs.Report.{row_lines, output_text}
 use Rattle.report.proofs.Fits.{few_steps, output_fits, refusal_fits}
-use Rattle.judge_files.specs.Files.{PatternRead, LogRead, LogJudged, log_refused, log_judged, Run, pattern_refused, pattern_read}
+use Rattle.judge_files.specs.Files.{LogJudged, log_refused, log_judged, Run, pattern_refused, pattern_read}
 use Rattle.judge_files.specs.Output.{AtFront}
 
 -- The result is what an accepted judging of the two buffers left.
