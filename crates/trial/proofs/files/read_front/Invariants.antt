@@ -1,5 +1,5 @@
 -- `read_front` takes at least a byte more each turn, and no more than there is room for.
-use Rattle.std.proofs.Common.{◌≡◌, ◌≤◌, ◌-◌, length}
+use Rattle.std.proofs.Common.{◌≤◌, ◌-◌, length}
 use Rattle.trial.proofs.files.read_front.Given as goal
 
 abbrev pub invariant-loop-done : goal.invariant-loop-done
