@@ -7,7 +7,7 @@
 // begins none of these stands for itself.
 #![tactic(auto)]
 
-ghost use Rattle.std.specs.Prelude.{◌≤◌, length};
+ghost use Rattle.trial.specs.Counts.{IsPrefixLen};
 
 use std::rt::Files;
 
@@ -19,7 +19,7 @@ pub use repeats::expand;
 
 // The file where the script is `=`, or else what the script expands to.
 pub fn load(rt: &impl Files, script: &[u8], path: &[u8], text: &mut [u8]) -> usize
-    ensures { result ≤ length text.new }
+    ensures { IsPrefixLen result text.new }
 {
     if trial::get_byte(script, 0) == b'=' {
         return trial::load(rt, path, text);

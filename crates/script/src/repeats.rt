@@ -1,5 +1,6 @@
 // A script as bodies that are repeated. What is no repetition is a body of one byte or escape, once.
-ghost use Rattle.std.specs.Prelude.{◌+◌, ◌≤◌, min, length};
+ghost use Rattle.std.specs.Prelude.{◌+◌, ◌≤◌, min};
+ghost use Rattle.trial.specs.Counts.{IsPrefixLen};
 
 use crate::bodies::put_body;
 use crate::items::{digits_end, single_width};
@@ -18,7 +19,7 @@ struct Repeat {
 // Writes the text to the front of `out`, as far as there is room, and answers how many bytes it
 // wrote.
 pub fn expand(script: &[u8], out: &mut [u8]) -> usize
-    ensures { result ≤ length out.new }
+    ensures { IsPrefixLen result out.new }
 {
     let mut n = 0;
     let mut at = 0;
@@ -33,7 +34,7 @@ pub fn expand(script: &[u8], out: &mut [u8]) -> usize
 
 // Appends the body for each index below `times`, until `out` is full.
 fn put_repeat(body: &[u8], times: u64, out: &mut [u8], from: usize) -> usize
-    ensures { result ≤ length out.new }
+    ensures { IsPrefixLen result out.new }
 {
     let mut n = from;
     let mut i = 0;

@@ -1,5 +1,6 @@
 // Files of cases: a case a line, its columns parted by tabs.
 ghost use Rattle.std.specs.Prelude.{◌≡◌, ◌≤◌, ◌<◌, min, max, length};
+ghost use Rattle.trial.specs.Counts.{IsPrefixLen};
 
 use std::fs::File;
 use std::io::Read;
@@ -8,7 +9,7 @@ use std::rt::Files;
 // The start of the file, as much as the buffer holds; nothing where it cannot be opened, as where its
 // path is no text.
 pub fn load(rt: &impl Files, path: &[u8], buf: &mut [u8]) -> usize
-    ensures { result ≤ length buf.new }
+    ensures { IsPrefixLen result buf.new }
 {
     let Ok(path) = str::from_utf8(path) else {
         return 0;
@@ -21,7 +22,7 @@ pub fn load(rt: &impl Files, path: &[u8], buf: &mut [u8]) -> usize
 
 // Reads until the buffer is full, the file ends or a read fails.
 fn read_front(file: &mut impl Read, buf: &mut [u8]) -> usize
-    ensures { result ≤ length buf.new }
+    ensures { IsPrefixLen result buf.new }
 {
     let mut done = 0;
     while done < buf.len() {
