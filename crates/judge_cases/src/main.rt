@@ -14,7 +14,7 @@ use std::rt::Files;
 
 mod calls;
 mod kept;
-mod rows;
+mod result_rows;
 
 fn main(rt: HostRuntime) -> io::Result<()> {
     let mut file = [0u8; 65536];
@@ -118,7 +118,7 @@ fn print_judged(
     if a.number > 0 {
         kept::print_unchanged(rt, res, work)
     } else {
-        rows::print_rows(rt, steps, res)?;
+        result_rows::print_rows(rt, steps, res)?;
         kept::print_work(rt, work)
     }
 }

@@ -1,6 +1,6 @@
 -- `last_used` ends at the row's first place.
 use Prim.Native.Nat.{◌≤◌}
-use Rattle.judge_cases.proofs.rows.last_used.Given as goal
+use Rattle.judge_cases.proofs.result_rows.last_used.Given as goal
 
 abbrev pub invariant-loop-i : goal.invariant-loop-i
 invariant-loop-i l = l.i ≤ 9

@@ -1,7 +1,7 @@
 -- `print_sum` lends no more numbers than the buffer has.
 use Rattle.trial.proofs.CountLaws.{kit}
 use borrow.Author.Rules.{rules}
-use Rattle.judge_cases.proofs.rows.print_sum.Goals as goal
+use Rattle.judge_cases.proofs.result_rows.print_sum.Goals as goal
 
 pub lent-n-requires : goal.lent-n-requires
 lent-n-requires g c = search (rules, kit)
