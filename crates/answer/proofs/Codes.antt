@@ -1,9 +1,9 @@
 -- The number for C gives byte, number, line and count back by the header's macros, and is below 2 to the 64: each of the four is below 65,536 in
 -- every answer, since it is a u16.
 -- Assumes nothing.
-use Prim.Native.Nat.{ℕ, ◌^◌, ◌<◌}
+use Prim.Native.Nat.{◌^◌, ◌<◌}
 use mathlib.Core.Path.{◌≡◌, refl}
-use mathlib.Core.List.{List, [], ◌∷◌, map}
+use mathlib.Core.List.{[], ◌∷◌, map}
 use native.Mathlib.Omega.{arith}
 use Rattle.answer.specs.declared.Answer.{Answer}
 use Rattle.answer.specs.Answers.{accepted_with, refused_at, refused_in, code_of, byte_in, number_in, line_in, count_in}

@@ -1,12 +1,13 @@
 // The answer that every call of an outsider gets.
 #![tactic(auto)]
 
-ghost use Rattle.std.specs.Prelude.{◌≡◌};
+ghost use Rattle.std.specs.Prelude.{◌≡◌, ◌↔◌, IsTrue};
 ghost use Rattle.answer.specs.Answers.{accepted_with, refused_at, refused_in, code_of};
 
 // Number 0 is accepted; any other is the refusal of that number in document 01. The line at fault, 0 where no text line is, and the byte:
-// the place in that line, from 1, where what is at fault starts, 0 where that is no single place.
-#[derive(Clone, Copy)]
+// the place in that line, from 1, where what is at fault starts, 0 where that is no single place. The number is no enum: C gets it as it is
+// (`RUNIN_NUMBER`), and document 02 adds others.
+#[derive(Clone, Copy, PartialEq, Eq)]
 pub struct Answer {
     pub number: u16,
     pub line: u16,
@@ -47,10 +48,20 @@ pub fn refused_in(number: u16, line: u16, byte: u16) -> Answer
     }
 }
 
+impl Answer {
+    pub fn is_accepted(self) -> bool
+        ensures { IsTrue result ↔ self.number ≡ 0 }
+    {
+        self.number == 0
+    }
+}
+
 // The four numbers as one, for C.
-pub fn code(a: Answer) -> u64
-    ensures { result ≡ code_of a }
-{
-    let low = a.line as u64 * 65536 + a.count as u64;
-    a.byte as u64 * 281474976710656 + a.number as u64 * 4294967296 + low
+impl From<Answer> for u64 {
+    ghost from_gives = { λ a code. code ≡ code_of a };
+
+    fn from(a: Answer) -> u64 {
+        let low = u64::from(a.line) * 65536 + u64::from(a.count);
+        u64::from(a.byte) * 281474976710656 + u64::from(a.number) * 4294967296 + low
+    }
 }

@@ -1,85 +1,46 @@
 // Logs with more links or labels than a first.
 use crate::links::copy_links;
-use random_inputs::{any_labels, one_label};
+use places::LogRoom;
+use random_inputs::{any_below, one_below};
 use trial::Random;
 
 // A log that only adds to the first: links, and labels where there are some.
-pub fn add_everywhere(log: &[u16], labels: u16, second: &mut [u16], from: Random) -> Random {
-    let n = places::step_count(log);
-    let mut r = from;
-    let mut w = 0;
-    while w < n {
-        r = add_to_step(log, w, labels, second, r);
-        w += 1;
+pub fn add_everywhere(log: &LogRoom, label_count: u16, random: &mut Random) -> LogRoom {
+    let mut second = LogRoom::new();
+    for w in 0..log.step_count() {
+        let added = one_below(label_count, random.draw(65536) as u16);
+        let labels = match log.labels(w) {
+            0 => 0,
+            old => old | added,
+        };
+        second.add_step(labels, random.draw(256) as u16);
+        let extra = extra_link(log, w, random.draw(65536) as u16);
+        copy_links(log, w, extra, &mut second);
     }
-    r
+    second
 }
 
-fn add_to_step(log: &[u16], w: u16, labels: u16, second: &mut [u16], from: Random) -> Random {
-    let set = from.next();
-    let board = set.next();
-    let more = more_labels(
-        places::labels(log, w),
-        one_label(labels, set.below(65536) as u16),
-    );
-    places::add_step(second, more, board.below(256) as u16);
-    let extra = board.next();
-    copy_links(
-        log,
-        w,
-        extra_link(log, w, extra.below(65536) as u16),
-        second,
-    );
-    extra
-}
-
-fn more_labels(old: u16, added: u16) -> u16 {
-    if old == 0 {
-        return 0;
+// A step smaller than w, unless no ninth link fits.
+fn extra_link(log: &LogRoom, w: u16, x: u16) -> Option<u16> {
+    if log.links(w).len() > 7 {
+        return None;
     }
-    old | added
-}
-
-// A step smaller than w, or w itself where no ninth link fits.
-fn extra_link(log: &[u16], w: u16, x: u16) -> u16 {
-    let links = places::links_end(log, w).wrapping_sub(places::links_start(log, w));
-    if links > 7 {
-        return w;
-    }
-    if w == 0 {
-        return w;
-    }
-    x % w
+    x.checked_rem(w)
 }
 
 // A log that adds a first label to bare steps, about half of them, and nothing else.
-pub fn label_bare(log: &[u16], labels: u16, second: &mut [u16], from: Random) -> Random {
-    let n = places::step_count(log);
-    let mut r = from.next();
-    places::add_step(second, 0, r.below(256) as u16);
-    let mut w = 1;
-    while w < n {
-        r = label_step(log, w, labels, second, r);
-        w += 1;
+pub fn label_bare(log: &LogRoom, label_count: u16, random: &mut Random) -> LogRoom {
+    let mut second = LogRoom::new();
+    second.add_step(0, random.draw(256) as u16);
+    for w in 1..log.step_count() {
+        let x = random.draw(65536) as u16;
+        let labels = match log.labels(w) {
+            0 if x % 2 == 0 => 0,
+            0 => any_below(label_count, x),
+            old => old,
+        };
+        second.add_step(labels, random.draw(256) as u16);
+        copy_links(log, w, None, &mut second);
     }
-    r
-}
-
-fn label_step(log: &[u16], w: u16, labels: u16, second: &mut [u16], from: Random) -> Random {
-    let set = from.next();
-    let board = set.next();
-    let drawn = first_label(places::labels(log, w), labels, set.below(65536) as u16);
-    places::add_step(second, drawn, board.below(256) as u16);
-    copy_links(log, w, w, second);
-    board
-}
-
-fn first_label(old: u16, labels: u16, x: u16) -> u16 {
-    if old != 0 {
-        return old;
-    }
-    if x % 2 == 0 {
-        return 0;
-    }
-    any_labels(labels, x)
+    second
 }

@@ -1,5 +1,4 @@
-// Logs made from a log as demand 3 allows, and one way that it does not. A buffer is all zeros before a log is made in it. Each
-// function that draws takes the generator by value and answers it as it is after its draws.
+// Logs made from a log: with the past of a step kept, with links and labels added, and with a first label on bare steps.
 #![tactic(auto)]
 
 mod additions;
@@ -7,4 +6,4 @@ mod links;
 mod past;
 
 pub use additions::{add_everywhere, label_bare};
-pub use past::{change_beyond, mark_past};
+pub use past::{Past, change_beyond, past_of};

@@ -201,7 +201,7 @@ pub rows_same : (cs : List Case) → map (λ c. row_of_texts c.pattern c.log c.s
 rows_same cs = ap (λ (f : Case → List ℕ). map f cs) (fun_ext (λ c. same_row (pattern_text c.pattern) c.log c.step))
 
 computed : map (λ c. front_row_by (pattern_text c.pattern) c.log c.step) marked ≡ map (λ c. c.numbers) marked
-unfolding marked listing_pattern all_clean some_clean some_vented listing_log start_alone bare_step labels_five walk as_lines split printable same_bytes digits value_from decimal same_fields name_bytes are_names among distinct follows_last breaks_turns states_of all_within all_single members_from place_of are_numbers rising_below link_count begins links table_up front_buffer bead_count rule_of_bead accepting_of next_of set_of some_below log_of pattern_of row prefixes pivots before seek holds? some? all? backward pass
+unfolding marked listing_pattern all_clean some_clean some_vented listing_log start_alone bare_step labels_five walk as_lines split printable digits value_from decimal same_fields name_bytes are_names among distinct follows_last breaks_turns states_of all_within all_single members_from place_of are_numbers rising_below link_count begins links table_up front_buffer bead_count rule_of_bead accepting_of next_of set_of some_below log_of pattern_of row prefixes pivots before seek holds? some? all? backward pass
 computed = refl
 
 -- Each case marked P has its ten numbers.

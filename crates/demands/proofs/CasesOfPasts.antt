@@ -103,35 +103,35 @@ AcceptedTexts pattern log = T (accepts (pattern_from pattern) (log_from log) (ze
 -- ---- what is computed
 
 long : (length (log_from listing_log) ≡ log_length) × (length (log_from shorter_log) ≡ log_length) × (length (log_from more_log) ≡ log_length)
-unfolding listing_log shorter_log more_log walk as_lines split printable same_bytes digits value_from decimal place_of are_numbers rising_below link_count begins links
+unfolding listing_log shorter_log more_log walk as_lines split printable digits value_from decimal place_of are_numbers rising_below link_count begins links
 long = (refl, refl, refl)
 
 -- The first two have different step counts and different boards.
 pub other_sizes : map (λ t. steps_in (log_from t)) (listing_log ∷ shorter_log ∷ more_log ∷ []) ≡ 7 ∷ 6 ∷ 7 ∷ []
-unfolding listing_log shorter_log more_log walk as_lines split printable same_bytes digits value_from decimal place_of are_numbers rising_below link_count begins links
+unfolding listing_log shorter_log more_log walk as_lines split printable digits value_from decimal place_of are_numbers rising_below link_count begins links
 other_sizes = refl
 
 abbrev boards : List ℕ → List ℕ
 boards log = map (λ v. at (log_from log) (board_at v)) (0 ∷ 1 ∷ 2 ∷ 3 ∷ 4 ∷ 5 ∷ 6 ∷ [])
 
 pub other_boards : map boards (listing_log ∷ shorter_log ∷ []) ≡ (0 ∷ 1 ∷ 2 ∷ 1 ∷ 2 ∷ 1 ∷ 3 ∷ []) ∷ (7 ∷ 0 ∷ 9 ∷ 5 ∷ 0 ∷ 255 ∷ 0 ∷ []) ∷ []
-unfolding listing_log shorter_log walk as_lines split printable same_bytes digits value_from decimal place_of are_numbers rising_below link_count begins links
+unfolding listing_log shorter_log walk as_lines split printable digits value_from decimal place_of are_numbers rising_below link_count begins links
 other_boards = refl
 
 three : (labels_by (pattern_text listing_pattern) ≡ 3) × (labels_by (pattern_text some_clean) ≡ 3)
-unfolding listing_pattern some_clean walk as_lines split printable same_bytes digits value_from decimal same_fields name_bytes are_names among distinct are_numbers follows_last breaks_turns states_of all_within all_single bead_count members_from
+unfolding listing_pattern some_clean walk as_lines split printable digits value_from decimal same_fields name_bytes are_names among distinct are_numbers follows_last breaks_turns states_of all_within all_single bead_count members_from
 three = (refl, refl)
 
 some_one : (beads_in (pattern_from some_clean) ≡ 1) × (at (pattern_from some_clean) (rule_at 0) ≡ 1)
-unfolding some_clean walk as_lines split printable same_bytes digits value_from decimal same_fields name_bytes are_names among distinct are_numbers follows_last breaks_turns states_of all_within all_single bead_count members_from table rule_of_bead
+unfolding some_clean walk as_lines split printable digits value_from decimal same_fields name_bytes are_names among distinct are_numbers follows_last breaks_turns states_of all_within all_single bead_count members_from table rule_of_bead
 some_one = (refl, refl)
 
 alike_computed : alike? (log_of (log_from listing_log)) (log_of (log_from shorter_log)) 5 ≡ true
-unfolding listing_log shorter_log walk as_lines split printable same_bytes digits value_from decimal place_of are_numbers rising_below link_count begins links members_from some_below all_below log_of some? backward pass route? past? alike?
+unfolding listing_log shorter_log walk as_lines split printable digits value_from decimal place_of are_numbers rising_below link_count begins links members_from some_below all_below log_of some? backward pass route? past? alike?
 alike_computed = refl
 
 adds_computed : only_adds? (log_of (log_from listing_log)) (log_of (log_from more_log)) ≡ true
-unfolding listing_log more_log walk as_lines split printable same_bytes digits value_from decimal place_of are_numbers rising_below link_count begins links members_from all_below log_of only_adds?
+unfolding listing_log more_log walk as_lines split printable digits value_from decimal place_of are_numbers rising_below link_count begins links members_from all_below log_of only_adds?
 adds_computed = refl
 
 -- The rows; the listing's own at step 5 is among the marked cases.
@@ -147,7 +147,7 @@ unfolding shown
 shown_count = refl
 
 front_shown : map (λ c. front_row_by (pattern_text c.pattern) c.log c.step) shown ≡ map (λ c. c.numbers) shown
-unfolding shown listing_pattern some_clean listing_log shorter_log more_log walk as_lines split printable same_bytes digits value_from decimal place_of are_numbers rising_below link_count begins links same_fields name_bytes are_names among distinct follows_last breaks_turns states_of all_within all_single bead_count members_from table_up front_buffer rule_of_bead accepting_of next_of set_of some_below log_of pattern_of row prefixes pivots before seek holds? some? all? backward pass
+unfolding shown listing_pattern some_clean listing_log shorter_log more_log walk as_lines split printable digits value_from decimal place_of are_numbers rising_below link_count begins links same_fields name_bytes are_names among distinct follows_last breaks_turns states_of all_within all_single bead_count members_from table_up front_buffer rule_of_bead accepting_of next_of set_of some_below log_of pattern_of row prefixes pivots before seek holds? some? all? backward pass
 front_shown = refl
 
 pub shown_rows : map (λ c. row_of_texts c.pattern c.log c.step) shown ≡ map (λ c. c.numbers) shown

@@ -1,24 +1,23 @@
 // Entering a step: the states to which its labels lead from a state of a bead.
 #![tactic(auto)]
 
-ghost use Rattle.std.specs.Prelude.{◌≡◌, cond, ◌+◌, ◌<◌, ◌≤◌, length};
+ghost use Rattle.std.specs.Prelude.{◌≡◌, cond, eqb, ◌+◌, ◌<◌, ◌≤◌, length};
 ghost use Rattle.lists.specs.Filled.{Filled};
+ghost use Rattle.lists.specs.Places.{at};
 ghost use Rattle.sets.specs.Sets.{set_of, singleton, members};
 ghost use Rattle.necklace.specs.Forward.{reached};
-ghost use Rattle.layout.specs.Layout.{most_beads, most_states, pattern_length};
+ghost use Rattle.layout.specs.Layout.{most_beads, most_labels, most_states, pattern_length, rule_at, states_at, accepting_at, next_at};
 ghost use Rattle.pattern_buffer.specs.Meaning.{automaton_of};
 ghost use Rattle.entering.specs.Entering.{union_over, spread_over, Grown};
 
 // The value of each state, from the leaf.
+#[tactic(auto, using(lists::proofs::FilledLaws::kit))]
 pub fn state_values() -> [u16; 16]
     ensures { Filled singleton 16 result }
 {
     let mut values = [0u16; 16];
-    let mut state: u16 = 0;
-    while state < 16 {
-        let at = state as usize;
-        values[at] = sets::singleton(state);
-        state += 1;
+    for state in 0..16u16 {
+        values[usize::from(state)] = sets::singleton(state);
     }
     values
 }
@@ -27,59 +26,102 @@ pub fn state_values() -> [u16; 16]
 pub fn set_if(b: bool, set: u16) -> u16
     ensures { result ≡ cond b set 0 }
 {
-    if b {
-        return set;
-    }
-    0
+    if b { set } else { 0 }
 }
 
 // The union of sixteen sets of a list, those whose place from `from` on is a member of a set. The values are laid out before the loop, and no
 // turn of it branches: the compiler then looks at all sixteen at once.
+#[tactic(auto, using(crate::proofs::EnterLaws::over_kit))]
 pub fn union_over(set: u16, list: &[u16], from: usize) -> u16
     requires { (from < 16384) × (from + 16 ≤ length list.now) }
     ensures { result ≡ set_of 16 (union_over set list.now from) }
 {
     let values = state_values();
-    let mut all: u16 = 0;
-    let mut i = 0;
-    while i < 16 {
+    let mut all = 0;
+    for i in 0..16 {
         let there = sets::overlaps(set, values[i]);
-        let more = set_if(there, list[from + i]);
-        all = sets::union(all, more);
-        i += 1;
+        all = sets::union(all, set_if(there, list[from + i]));
     }
     all
 }
 
 // Adds a set to those of the first sixteen of a list whose place is a member of another. The values are laid out before the loop, as in
 // `union_over`.
+#[tactic(auto, using(crate::proofs::GrowLaws::spread_kit))]
 pub fn spread(set: u16, more: u16, list: &mut [u16])
     requires { 16 ≤ length list.old }
     ensures { Grown 16 (spread_over set more) list.old list.new }
 {
     let values = state_values();
-    let mut r = 0;
-    while r < 16 {
+    for r in 0..16 {
         let there = sets::overlaps(set, values[r]);
-        let got = set_if(there, more);
-        list[r] = sets::union(list[r], got);
-        r += 1;
+        list[r] = sets::union(list[r], set_if(there, more));
     }
 }
 
-// The states to which entering a vertex with these labels leads from a state: the state itself where there are none.
-pub fn enter(pattern: &[u16], bead: usize, labels: u16, state: u16) -> u16
-    requires pattern_length_in_bounds { pattern_length ≤ length pattern.now }
-    requires bead_lt_most_beads { bead < most_beads }
-    requires state_lt_most_states { state < most_states }
-    ensures { result ≡ set_of 16 (reached (automaton_of pattern.now bead) (members 16 labels) state) }
-{
-    if labels == 0 {
-        return sets::singleton(state);
+// A bead of a pattern buffer, by its place.
+#[derive(Clone, Copy)]
+pub struct Bead<'a> {
+    pub pattern: &'a [u16],
+    pub place: usize,
+    ghost long: { pattern_length ≤ length pattern.now },
+    ghost there: { place < most_beads },
+}
+
+impl<'a> Bead<'a> {
+    pub fn new(pattern: &'a [u16], place: usize) -> Bead<'a>
+        requires { (pattern_length ≤ length pattern.now) × (place < most_beads) }
+        ensures { (result.pattern.now ≡ pattern.now) × (result.place ≡ place) }
+    {
+        Bead { pattern, place }
     }
-    union_over(
-        labels,
-        pattern,
-        layout::NEXT_SETS + layout::SETS_A_BEAD * bead + layout::SETS_A_STATE * (state as usize),
-    )
+
+    // Is it an ALL bead?
+    pub fn is_all(self) -> bool
+        ensures { result ≡ eqb (at self.entry.pattern.now (rule_at self.entry.place)) 2 }
+    {
+        self.pattern[layout::RULES + self.place] == 2
+    }
+
+    // How many states it has.
+    pub fn states(self) -> u16
+        ensures { result ≡ at self.entry.pattern.now (states_at self.entry.place) }
+    {
+        self.pattern[layout::STATE_COUNTS + self.place]
+    }
+
+    // The set of its accepting states.
+    pub fn accepting(self) -> u16
+        ensures { result ≡ at self.entry.pattern.now (accepting_at self.entry.place) }
+    {
+        self.pattern[layout::FINAL_SETS + self.place]
+    }
+
+    // Where the next sets of a state begin, one a label.
+    fn nexts(self, state: usize) -> usize
+        requires { state < most_states }
+        ensures { result ≡ next_at self.entry.place state 0 }
+    {
+        layout::NEXT_SETS + layout::SETS_A_BEAD * self.place + layout::SETS_A_STATE * state
+    }
+
+    // The next set of a state at a label.
+    pub fn next(self, state: usize, label: usize) -> u16
+        requires { (state < most_states) × (label < most_labels) }
+        ensures { result ≡ at self.entry.pattern.now (next_at self.entry.place state label) }
+    {
+        self.pattern[self.nexts(state) + label]
+    }
+
+    // The states to which entering a vertex with these labels leads from a state: the state itself where there are none.
+    #[tactic(auto, using(crate::proofs::EnterLaws::enter_kit))]
+    pub fn enter(self, labels: u16, state: u16) -> u16
+        requires { state < most_states }
+        ensures { result ≡ set_of 16 (reached (automaton_of self.entry.pattern.now self.entry.place) (members 16 labels) state) }
+    {
+        if labels == 0 {
+            return sets::singleton(state);
+        }
+        union_over(labels, self.pattern, self.nexts(usize::from(state)))
+    }
 }

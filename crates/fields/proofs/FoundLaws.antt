@@ -6,15 +6,14 @@ use Prim.Native.Nat.{ℕ, ◌-◌, ◌≤◌}
 use lib.ListN.{length, get_or, take, drop, get_or-eq_default}
 use Rattle.text.specs.Split.{split}
 use Rattle.fields.specs.Fields.{field_of}
-use Rattle.fields.specs.declared.Field.{Field}
-use Rattle.fields.specs.declared.Field.TheVariants.{At, Missing}
+use Rattle.std.specs.Prelude.{Option, Some, None}
 use Rattle.fields.proofs.FieldLaws.{field_selects, field_missing}
 
-module _ (b : ℕ) (l : List ℕ) (i : ℕ) (r : Field) (given : r ≡ field_of b l i) where
-  pub found_none : r ≡ Missing → get_or (split b l) i [] ≡ []
+module _ (b : ℕ) (l : List ℕ) (i : ℕ) (r : Option (ℕ × ℕ)) (given : r ≡ field_of b l i) where
+  pub found_none : r ≡ None → get_or (split b l) i [] ≡ []
   found_none p = get_or-eq_default (split b l) [] (field_missing b l i (sym given ∙ p))
 
-  module _ (x y : ℕ) (p : r ≡ At x y) where
+  module _ (x y : ℕ) (p : r ≡ Some (x, y)) where
     pub found_ordered : x ≤ y
     found_ordered = (field_selects b l i x y (sym given ∙ p)).ordered
 
@@ -23,3 +22,5 @@ module _ (b : ℕ) (l : List ℕ) (i : ℕ) (r : Field) (given : r ≡ field_of 
 
     pub found_bytes : take (y - x) (drop x l) ≡ get_or (split b l) i []
     found_bytes = (field_selects b l i x y (sym given ∙ p)).bytes
+
+pub ruleset found_kit = (found_none, found_ordered, found_inside, found_bytes)

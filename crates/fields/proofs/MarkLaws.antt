@@ -10,8 +10,8 @@ use borrow.Author.Tests.{lt-ltb, le-ltb}
 use lib.ListN.{length, get_or, take, drop, set, length-set, length-drop}
 use lib.Seq.{length-take-le, set_out, get_or-set_same, get_or-set_other}
 use Rattle.text.specs.Split.{split, first_part}
-use Rattle.fields.specs.Fields.{part_start, field_of, Marked}
-use Rattle.fields.specs.declared.Field.TheVariants.{At, Missing}
+use Rattle.fields.specs.Fields.{part_start, part_at, Marked}
+use Rattle.std.specs.Prelude.{Some, None}
 use Rattle.fields.proofs.PlaceLaws.{start_none, start_next}
 use Rattle.fields.proofs.PartLaws.{parts_from, parts_all, parts_none, parts_step, part_in, part_kit}
 
@@ -51,11 +51,11 @@ part_length b l at n inside given =
 -- ---- the turns
 
 -- The first i fields are marked, and the place after them is reached.
-pub record Marking (b : ℕ) (l : List ℕ) (i at : ℕ) (marks : List ℕ) : Type 0 where
+pub record Marking (b : ℕ) (l : List ℕ) (i at : ℕ) (starts : List ℕ) : Type 0 where
   pub place : at ≡ part_start (split b l) i
   pub rest : drop i (split b l) ≡ parts_from b l at
   pub few : i ≤ length (split b l)
-  pub done : (j : ℕ) → j < i → j + 1 < length marks → get_or marks (j + 1) 0 ≡ part_start (split b l) j
+  pub done : (j : ℕ) → j < i → j < length starts → get_or starts j 0 ≡ part_start (split b l) j
 
 pub marking_start : (b : ℕ) (l marks : List ℕ) → Marking b l 0 0 marks
 marking_start b l marks = record {
@@ -66,18 +66,18 @@ marking_start b l marks = record {
 }
 
 -- One mark more is put down.
-put_down : (b : ℕ) (l : List ℕ) (i at : ℕ) (marks new : List ℕ) → Marking b l i at marks → new ≡ set marks (i + 1) at
-    → (j : ℕ) → j < i + 1 → j + 1 < length new → get_or new (j + 1) 0 ≡ part_start (split b l) j
-put_down b l i at marks new m e j h k = go (ℕ_discrete j i)
+put_down : (b : ℕ) (l : List ℕ) (i at : ℕ) (starts new : List ℕ) → Marking b l i at starts → new ≡ set starts i at
+    → (j : ℕ) → j < i + 1 → j < length new → get_or new j 0 ≡ part_start (split b l) j
+put_down b l i at starts new m e j h k = go (ℕ_discrete j i)
   where
-    len : length new ≡ length marks
-    len = ap length e ∙ length-set marks (i + 1) at
+    len : length new ≡ length starts
+    len = ap length e ∙ length-set starts i at
 
-    go : Dec (j ≡ i) → get_or new (j + 1) 0 ≡ part_start (split b l) j
-    go (yes q) = let c = len in rw (q, e) (get_or-set_same marks (i + 1) at 0 (omega arith) ∙ m.place)
-    go (no q) = let c = len in rw e (get_or-set_other marks (i + 1) (j + 1) at 0 (λ z. q (omega arith)) ∙ m.done j (omega arith) (omega arith))
+    go : Dec (j ≡ i) → get_or new j 0 ≡ part_start (split b l) j
+    go (yes q) = let c = len in rw (q, e) (get_or-set_same starts i at 0 (omega arith) ∙ m.place)
+    go (no q) = let c = len in rw e (get_or-set_other starts i j at 0 (λ z. q (omega arith)) ∙ m.done j (omega arith) (omega arith))
 
-module _ (b : ℕ) (l : List ℕ) (i at : ℕ) (marks new : List ℕ) (m : Marking b l i at marks) (put : new ≡ set marks (i + 1) at) where
+module _ (b : ℕ) (l : List ℕ) (i at : ℕ) (starts new : List ℕ) (m : Marking b l i at starts) (put : new ≡ set starts i at) where
   pub marking_next : (n : ℕ) → at ≤ length l → n ≡ length (first_part b (take (length l - at) (drop at l))) → Marking b l (i + 1) (at + n + 1) new
   marking_next n inside given =
       let s = m.rest ∙ parts_step b l at n inside given in
@@ -91,23 +91,27 @@ module _ (b : ℕ) (l : List ℕ) (i at : ℕ) (marks new : List ℕ) (m : Marki
         place = rw (add-one i) (omega arith);
         rest = rw (add-one i) d.2;
         few = let h = d.0 in omega arith;
-        done = put_down b l i at marks new m put;
+        done = put_down b l i at starts new m put;
       }
 
-  pub marking_end : length l < at → (all : List ℕ) → 0 < length marks → all ≡ set new 0 i → Marked b l all
-  marking_end past all some e =
+  marked_all : length l < at → Marked b l i new
+  marked_all past =
       let z : drop i (split b l) ≡ [] = m.rest ∙ parts_none b l at past in
       let q = ap length z in
       let d = length-drop i (split b l) in
       let f = m.few in
       let c : i ≡ length (split b l) = omega arith in
-      let len : length all ≡ length marks = ap length e ∙ length-set new 0 i ∙ ap length put ∙ length-set marks (i + 1) at in
-      let len_new : length new ≡ length marks = ap length put ∙ length-set marks (i + 1) at in
       record {
-        some = omega arith;
-        count = rw e (get_or-set_same new 0 i 0 (omega arith) ∙ c);
-        starts = λ j h k. rw e (get_or-set_other new 0 (j + 1) i 0 (λ y. omega arith) ∙ put_down b l i at marks new m put j (omega arith) (omega arith));
+        counted = c;
+        begins = λ j h k. put_down b l i at starts new m put j (omega arith) k;
       }
+
+-- The last mark: the walk over the fields ends one place behind the line's end.
+pub marking_end : (b : ℕ) (l : List ℕ) (i at : ℕ) (starts new : List ℕ) → Marking b l i at starts → at ≤ length l + 1 → length l < at
+    → new ≡ set starts i (length l + 1) → Marked b l i new
+marking_end b l i at starts new m inside past put =
+    let e : length l + 1 ≡ at = omega arith in
+    marked_all b l i at starts new m (put ∙ ap (λ (x : ℕ). set starts i x) e) past
 
 module _ (l : List ℕ) (i at : ℕ) where
   pub count_fits : i ≤ at → at ≤ length l → length l * 1 < 2 ^ 63 → i + 1 < 2 ^ 64
@@ -119,36 +123,38 @@ module _ (l : List ℕ) (i at : ℕ) where
   pub count_in : (n : ℕ) → i ≤ at → i + 1 ≤ at + n + 1
   count_in n h = omega arith
 
-pub length_kept : (old marks new : List ℕ) (i x j y : ℕ) → length marks ≡ length old → new ≡ set marks i x → length (set new j y) ≡ length old
-length_kept old marks new i x j y k e = length-set new j y ∙ ap length e ∙ length-set marks i x ∙ k
+pub length_kept : (old starts new : List ℕ) (i x : ℕ) → length starts ≡ length old → new ≡ set starts i x → length new ≡ length old
+length_kept old starts new i x k e = ap length e ∙ length-set starts i x ∙ k
 
 pub ruleset marking_kit = (length_kept, marking_start, marking_next, marking_end, count_fits, last_fits, count_in, part_kit)
 
 -- ---- a field by its marks
 
-module _ (b : ℕ) (l marks : List ℕ) (index : ℕ) (m : Marked b l marks) where
-  pub marked_missing : get_or marks 0 0 ≤ index → Missing ≡ field_of b l index
-  marked_missing h = let c = m.count in sym (simp (le-ltb index (length (split b l)) (omega arith)))
+module _ (b : ℕ) (l : List ℕ) (count : ℕ) (starts : List ℕ) (index : ℕ) (m : Marked b l count starts) where
+  pub marked_count : count ≡ length (split b l)
+  marked_count = m.counted
 
-  module _ (inside : index < get_or marks 0 0) (three : 3 ≤ length marks) (room : index ≤ length marks - 3) where
-    begins : get_or marks (index + 1) 0 ≡ part_start (split b l) index
-    begins = let c = m.count in m.starts index (omega arith) (omega arith)
+  pub marked_missing : count ≤ index → None ≡ part_at (split b l) index
+  marked_missing h = let c = m.counted in sym (simp (le-ltb index (length (split b l)) (omega arith)))
 
-    ends : get_or marks (index + 2) 0 ≡ part_start (split b l) index + length (get_or (split b l) index []) + 1
+  module _ (inside : index < count) (room : index + 1 < length starts) where
+    begins : get_or starts index 0 ≡ part_start (split b l) index
+    begins = let c = m.counted in m.begins index (omega arith) (omega arith)
+
+    ends : get_or starts (index + 1) 0 ≡ part_start (split b l) index + length (get_or (split b l) index []) + 1
     ends =
-        let c = m.count in
-        let e : index + 1 + 1 ≡ index + 2 = omega arith in
-        let s = m.starts (index + 1) (omega arith) (omega arith) in
+        let c = m.counted in
+        let s = m.begins (index + 1) (omega arith) (omega arith) in
         let t = start_add (split b l) index (omega arith) in
-        (rw (sym e) (s ∙ (rw (add-one index) t)))
+        (s ∙ (rw (add-one index) t))
 
-    pub marked_later : 1 ≤ get_or marks (index + 2) 0
+    pub marked_later : 1 ≤ get_or starts (index + 1) 0
     marked_later = let e = ends in omega arith
 
-    pub marked_found : At (get_or marks (index + 1) 0) (get_or marks (index + 2) 0 - 1) ≡ field_of b l index
+    pub marked_found : Some (get_or starts index 0, get_or starts (index + 1) 0 - 1) ≡ part_at (split b l) index
     marked_found =
-        let c = m.count in
-        let f : get_or marks (index + 2) 0 - 1 ≡ part_start (split b l) index + length (get_or (split b l) index []) = let e = ends in omega arith in
+        let c = m.counted in
+        let f : get_or starts (index + 1) 0 - 1 ≡ part_start (split b l) index + length (get_or (split b l) index []) = let e = ends in omega arith in
         sym (simp (lt-ltb index (length (split b l)) (omega arith)) (rw (begins, f) refl))
 
-pub ruleset marked_kit = (marked_missing, marked_later, marked_found)
+pub ruleset marked_kit = (marked_count, marked_missing, marked_later, marked_found)

@@ -99,8 +99,6 @@ hopeful_set b j onwards r d c = record { states = record { accepting = c.first.s
         let n = members_out 16 (at b (next_at j q a)) s m in
         c.before q s l n.0 (subst (λ (set : ℕ). T (member s set)) (sym (d.number q l)) (next_onward b j q a s k n.0 n.1)) t
 
-pub ruleset hopeful_kit = (hopeful_set)
-
 -- ---- bead by bead
 
 -- The sets of the beads below n.

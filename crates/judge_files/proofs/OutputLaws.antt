@@ -73,5 +73,3 @@ pub refusal_out : (old new result : List ℕ) (r : Answer) (beads steps n : ℕ)
 refusal_out old new result r beads steps n h f g b w e =
     let short = refusal_fits r f g b in
     rw (ne_eqb _ _ h) (front (refusal_text r) old new n w (omega arith))
-
-pub ruleset kit = (rows_room, rows_out, refusal_out)

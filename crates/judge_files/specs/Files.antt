@@ -3,6 +3,7 @@
 -- place more than the longest text, so that a text that is cut off at the buffer's end is refused (`pattern_whole`, `log_whole`).
 use Rattle.std.specs.Prelude.{ℕ, suc, ◌≤◌, List, ◌≡◌, length, get_or, take}
 use Rattle.answer.specs.declared.Answer.{Answer}
+use Rattle.judge_files.specs.declared.Rooms.{Rooms}
 use Rattle.layout.specs.Layout.{most_pattern_text, most_log_text}
 use Rattle.pattern.specs.Answer.{pattern_answer, pattern_after}
 use Rattle.log_reader.specs.Answer.{log_answer, log_after}
@@ -43,6 +44,11 @@ pub data Run (pattern_text log_text pattern log result work : List ℕ) (r : Ans
       (a : Answer) → PatternRead pattern_text pattern a pattern' → a.number ≡ 0
       → LogJudged log_text pattern' log result work r log' result' work'
       → Run pattern_text log_text pattern log result work r pattern' log' result' work'
+
+-- The rooms of the program, before the two files were read and after: `Run` of their buffers.
+abbrev pub Ran : Rooms → Answer → Rooms → Type 0
+Ran old r new =
+    Run new.pattern_text new.log_text old.pattern old.log old.result old.work r new.pattern new.log new.result new.work
 
 -- Each text buffer has a place more than the longest text.
 pub record TextRooms (pattern_text log_text : List ℕ) : Type 0 where

@@ -5,97 +5,99 @@ ghost use Rattle.std.specs.Prelude.{◌≡◌, get_or};
 ghost use Rattle.pattern_buffer.specs.Meaning.{beads_in};
 ghost use Rattle.log_buffer.specs.Meaning.{steps_in};
 ghost use Rattle.report.specs.Report.{output_text};
-ghost use Rattle.judge_files.specs.Files.{PatternRead, LogRead, LogJudged, Run, TextRooms};
+ghost use Rattle.judge_files.specs.Files.{PatternRead, LogRead, Ran, TextRooms};
 ghost use Rattle.judge_files.specs.Output.{AtFront};
 
 use answer::Answer;
 use loading::load;
 use std::rt::Files;
 
+// A text buffer is a byte longer than the longest text, so that a text that is too long is seen.
+pub const PATTERN_TEXT_ROOM: usize = 16385;
+
+pub const LOG_TEXT_ROOM: usize = 65536;
+
+// More than all that can be printed.
+pub const OUTPUT_ROOM: usize = 65536;
+
+// The names of the two files.
+#[derive(Clone, Copy)]
+pub struct Names<'a> {
+    pub pattern: &'a [u8],
+    pub log: &'a [u8],
+}
+
+// All that the program reads into and writes to.
+#[derive(Drop)]
+pub struct Rooms {
+    pub pattern_text: [u8; PATTERN_TEXT_ROOM],
+    pub log_text: [u8; LOG_TEXT_ROOM],
+    pub pattern: [u16; layout::PATTERN_LENGTH],
+    pub log: [u16; layout::LOG_LENGTH],
+    pub result: [u16; layout::RESULT_LENGTH],
+    pub work: [u16; layout::WORK_LENGTH],
+    pub output: [u8; OUTPUT_ROOM],
+}
+
 // The answer, and how many bytes of the output there are to print.
 #[derive(Clone, Copy)]
-pub struct Output {
+pub struct Printed {
     pub answer: Answer,
     pub length: usize,
 }
 
 // Judges the log in one file by the pattern in another, and lays out the rows, or the
 // line of the first refusal, at the front of the output. A pattern that is refused means that the
-// log is not opened. Each text buffer is a byte longer than the longest text, so that a text that
-// is too long is seen.
-pub fn run(
-    rt: &impl Files,
-    pattern_name: &[u8],
-    log_name: &[u8],
-    patterntext: &mut [u8; 16385],
-    logtext: &mut [u8; 65536],
-    pattern: &mut [u16; 2074],
-    log: &mut [u16; 7170],
-    res: &mut [u16; 10240],
-    work: &mut [u16; 16384],
-    output: &mut [u8; 65536],
-) -> Output
-    ensures text_rooms { TextRooms patterntext.new logtext.new }
-    ensures run { Run patterntext.new logtext.new pattern.old log.old res.old work.old result.answer pattern.new log.new res.new work.new }
-    ensures at_front { AtFront (output_text result.answer (beads_in pattern.new) (steps_in log.new) res.new) output.old result.length output.new }
+// log is not opened.
+pub fn run(rt: &impl Files, names: Names, rooms: &mut Rooms) -> Printed
+    ensures text_rooms { TextRooms rooms.new.pattern_text rooms.new.log_text }
+    ensures run { Ran rooms.old result.answer rooms.new }
+    ensures at_front { AtFront (output_text result.answer (beads_in rooms.new.pattern) (steps_in rooms.new.log) rooms.new.result) rooms.old.output result.length rooms.new.output }
 {
-    let answer = judge_texts(
+    let answer = judge_texts(rt, names, rooms);
+    let length = if answer.is_accepted() {
+        report::put_rows(
+            &mut rooms.output,
+            rooms.pattern[1],
+            rooms.log[0],
+            &rooms.result,
+        )
+    } else {
+        report::put_refusal(&mut rooms.output, answer)
+    };
+    Printed { answer, length }
+}
+
+fn judge_texts(rt: &impl Files, names: Names, rooms: &mut Rooms) -> Answer
+    ensures text_rooms { TextRooms rooms.new.pattern_text rooms.new.log_text }
+    ensures run { Ran rooms.old result rooms.new }
+    ensures output_unchanged { rooms.new.output ≡ rooms.old.output }
+{
+    let pattern_read = read_pattern_file(
         rt,
-        pattern_name,
-        log_name,
-        patterntext,
-        logtext,
-        pattern,
-        log,
-        res,
-        work,
+        names.pattern,
+        &mut rooms.pattern_text,
+        &mut rooms.pattern,
     );
-    if answer.number == 0 {
-        let beads = pattern[1];
-        let steps = log[0];
-        let length = report::put_rows(output, beads, steps, res);
-        return Output { answer, length };
+    if !pattern_read.is_accepted() {
+        return pattern_read;
     }
-    let length = report_lines::put_refusal(output, 0, answer);
-    Output { answer, length }
-}
-
-fn judge_texts(
-    rt: &impl Files,
-    pattern_name: &[u8],
-    log_name: &[u8],
-    patterntext: &mut [u8],
-    logtext: &mut [u8],
-    pattern: &mut [u16],
-    log: &mut [u16],
-    res: &mut [u16],
-    work: &mut [u16],
-) -> Answer
-    ensures { Run patterntext.new logtext.new pattern.old log.old res.old work.old result pattern.new log.new res.new work.new }
-{
-    let first = read_pattern_file(rt, pattern_name, patterntext, pattern);
-    if first.number == 0 {
-        return judge_log_file(rt, log_name, logtext, pattern, log, res, work);
+    let log_read = read_log_file(
+        rt,
+        names.log,
+        &mut rooms.log_text,
+        &rooms.pattern,
+        &mut rooms.log,
+    );
+    if !log_read.is_accepted() {
+        return log_read;
     }
-    first
-}
-
-fn judge_log_file(
-    rt: &impl Files,
-    name: &[u8],
-    text: &mut [u8],
-    pattern: &[u16],
-    log: &mut [u16],
-    res: &mut [u16],
-    work: &mut [u16],
-) -> Answer
-    ensures { LogJudged text.new pattern.now log.old res.old work.old result log.new res.new work.new }
-{
-    let read = read_log_file(rt, name, text, pattern, log);
-    if read.number == 0 {
-        return judging::judge(pattern, log, res, work);
-    }
-    read
+    judging::judge(
+        &rooms.pattern,
+        &rooms.log,
+        &mut rooms.result,
+        &mut rooms.work,
+    )
 }
 
 fn read_pattern_file(rt: &impl Files, name: &[u8], text: &mut [u8], pattern: &mut [u16]) -> Answer
@@ -122,8 +124,5 @@ fn read_log_file(
 fn label_count(pattern: &[u16]) -> u16
     ensures { result ≡ get_or pattern.now 0 0 }
 {
-    if pattern.len() == 0 {
-        return 0;
-    }
-    pattern[0]
+    pattern.first().copied().unwrap_or(0)
 }

@@ -1,9 +1,9 @@
 -- The lanes in some state of a set, and in no other.
 use Prim.Native.Nat.{ℕ, ◌*◌}
-use mathlib.Core.Path.{◌≡◌, refl, ap, ap₂, ◌∙◌}
-use mathlib.Core.Bool.{Bool, not, ◌&&◌}
+use mathlib.Core.Path.{◌≡◌, refl, sym, ap, ap₂, ◌∙◌}
+use mathlib.Core.Bool.{Bool, true, false, not, ◌&&◌}
 use mathlib.Core.List.{List}
-use borrow.Author.Tests.{eq-eqb, ne_eqb}
+use lib.Dec.{eqb}
 use Rattle.lists.specs.Places.{at}
 use Rattle.sets.specs.Sets.{member, set_of, intersection, complement}
 use Rattle.sets.proofs.Agree.{set_of_ext}
@@ -19,17 +19,17 @@ with_is work x states all e = e
 -- ---- the lanes that are in states of the set alone
 
 module _ (pattern : List ℕ) (k set : ℕ) (work : List ℕ) (x inside : ℕ) (ea : inside ≡ set_of 16 (lane_with work x set)) where
-  pub reaching_some : (at pattern (rule_at k) ≡ 2 → ⊥) → inside ≡ set_of 16 (lane_holds pattern k set work x)
+  pub reaching_some : (is_all : Bool) → is_all ≡ eqb (at pattern (rule_at k)) 2 → is_all ≡ false → inside ≡ set_of 16 (lane_holds pattern k set work x)
   unfolding lane_holds
-  reaching_some n = ea ∙ set_of_ext 16 (lane_with work x set) (lane_holds pattern k set work x) (λ i l. rw (ne_eqb (at pattern (rule_at k)) 2 n) refl)
+  reaching_some t e n = ea ∙ set_of_ext 16 (lane_with work x set) (lane_holds pattern k set work x) (λ i l. rw (sym e ∙ n) refl)
 
-  pub reaching_all : (rest others less r : ℕ) → at pattern (rule_at k) ≡ 2 → rest ≡ complement (at pattern (states_at k)) set
+  pub reaching_all : (is_all : Bool) (rest others less r : ℕ) → is_all ≡ eqb (at pattern (rule_at k)) 2 → is_all ≡ true → rest ≡ complement (at pattern (states_at k)) set
       → others ≡ set_of 16 (lane_with work x rest) → less ≡ complement 16 others → r ≡ intersection 16 inside less → r ≡ set_of 16 (lane_holds pattern k set work x)
   unfolding lane_holds
-  reaching_all rest others less r e er eo el ei =
+  reaching_all t rest others less r e y er eo el ei =
       ei ∙ set_of_ext 16 (λ i. member i inside && member i less) (lane_holds pattern k set work x)
       (λ i l. ap₂ (λ (a b : Bool). a && b) (ap (member i) ea ∙ member-set_of 16 (lane_with work x set) i l)
       (ap (member i) el ∙ member_complement 16 others i l ∙ ap not (ap (member i) eo ∙ member-set_of 16 (lane_with work x rest) i l ∙ ap (λ (s : ℕ). lane_with work x s i) er))
-      ∙ rw (eq-eqb (at pattern (rule_at k)) 2 e) refl)
+      ∙ rw (sym e ∙ y) refl)
 
 pub ruleset reaching_kit = (reaching_some, reaching_all)

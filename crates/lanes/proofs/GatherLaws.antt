@@ -1,22 +1,18 @@
 -- The lanes of a step added, and those of listed steps, step by step.
-use Prim.Native.Nat.{ℕ, ◌+◌, ◌-◌, ◌*◌, ◌≤◌, ◌<◌}
+use Prim.Native.Nat.{ℕ, ◌+◌, ◌*◌, ◌≤◌, ◌<◌}
 use mathlib.Core.Path.{◌≡◌, sym, ap, ◌∙◌}
 use mathlib.Core.Bool.{Bool, cond, ◌&&◌, ◌||◌, or-false, or_assoc}
 use mathlib.Core.List.{List, [], ◌∷◌, ◌++◌}
 use native.Mathlib.Numerals.{add-one}
 use native.Mathlib.Omega.{arith}
 use borrow.Author.Tests.{le-leb, lt-leb, lt-ltb}
-use lib.ListN.{length, get_or, set, take, drop, replicate}
+use lib.ListN.{length, get_or, set, take, replicate}
 use lib.Seq.{take_all, take-suc}
 use Rattle.lists.proofs.Tables.{zeros_at}
 use Rattle.sets.specs.Sets.{member, union}
 use Rattle.sets.proofs.Bits.{member_empty}
 use Rattle.sets.proofs.Laws.{member_union}
 use Rattle.necklace.specs.Compute.{some_of}
-use Rattle.layout.specs.Layout.{link_at}
-use Rattle.log_buffer.specs.Meaning.{steps_in, links_into}
-use Rattle.log_links.specs.Links.{Laid, Begins, Inside}
-use Rattle.log_links.proofs.LinkLaws.{links_order, links_small, links_are}
 use Rattle.entering.specs.Entering.{Grown}
 use Rattle.entering.proofs.GrowLaws.{grown_none, grown_end, grown_more}
 use Rattle.lanes.specs.Lanes.{work_at, lane_in, lanes_at, Gathered}
@@ -61,23 +57,11 @@ module _ (work : List ℕ) (first : ℕ) (links : List ℕ) (j w : ℕ) (link : 
         ∙ sym (more i q ∙ ap (λ (b : Bool). some_of (λ y. lane_in work first i y q) (take j links) || (b && member i (get_or work (work_at w q) 0))) (lt-leb first w low) ∙ or-false _);
   }
 
-pub link_small : (links : List ℕ) (j w : ℕ) → Inside 1024 links → j < length links → w ≡ get_or links j 0 → w < 1024
-link_small links j w inside h e = let k = inside.below j h in omega arith
-
-pub ruleset link_kit = (link_yes, link_no, link_small)
+pub ruleset link_kit = (link_yes, link_no)
 
 pub gather_end : (work : List ℕ) (first : ℕ) (links : List ℕ) (j : ℕ) (l : List ℕ) → length links ≤ j → Gathered work first (take j links) l → Gathered work first links l
 gather_end work first links j l h d = rw (take_all j links h) at d
 
--- ---- the predecessors of a step
-
 -- an array of zeros has no lanes
 pub gather_none : (work : List ℕ) (first : ℕ) (links : List ℕ) (n : ℕ) → Gathered work first (take 0 links) (replicate n 0)
 gather_none work first links n = record { lanes = λ i q k m. ap (member i) (zeros_at n q) ∙ member_empty i }
-
-module _ (log : List ℕ) (x from to : ℕ) (laid : Laid log) (h : x < steps_in log) (begins : Begins log x from) (ends : Begins log (x + 1) to) where
-  pub gathered_into : (work : List ℕ) (first : ℕ) (l : List ℕ) → Gathered work first (take (link_at to - link_at from) (drop (link_at from) log)) l
-      → Gathered work first (links_into log x) l
-  gathered_into work first l d = rw (links_are log x from to laid h begins ends) at d
-
-pub ruleset before_kit = (gather_none, links_order, links_small, gathered_into)

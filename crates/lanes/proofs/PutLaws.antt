@@ -1,12 +1,15 @@
 -- The lanes of a step put down, and those that begin there.
-use Prim.Native.Nat.{ℕ, ◌+◌, ◌*◌, ◌≤◌, ◌<◌}
+use Prim.Native.Nat.{ℕ, ◌+◌, ◌-◌, ◌*◌, ◌≤◌, ◌<◌}
 use mathlib.Core.Path.{◌≡◌, refl, sym, ap, ◌∙◌}
 use mathlib.Core.Bool.{Bool, ◌||◌, or-false}
-use mathlib.Core.List.{List}
-use native.Mathlib.Decide.{ℕ_discrete}
+use mathlib.Core.List.{List, ◌++◌}
+use native.Mathlib.Decide.{dec_lt}
 use native.Mathlib.Omega.{arith}
-use lib.ListN.{length, get_or, set}
-use lib.Seq.{get_or-set_same, get_or-set_other}
+use lib.ListN.{length, get_or, set, take, drop, length-take, get_or-append}
+use borrow.Rule.Slice.PartMut.{put_mid}
+use lib.Seq.{get_or-set_same, get_or-set_other, get_or-take, get_or-drop}
+use Rattle.std.proofs.lemmas.List.{get_or-append_right}
+use Rattle.std.proofs.Math.Nat.{min-eq_left}
 use Rattle.sets.specs.Sets.{member, union}
 use Rattle.sets.proofs.Bits.{member_empty}
 use Rattle.sets.proofs.Laws.{member_union}
@@ -14,20 +17,48 @@ use Rattle.lanes.specs.Lanes.{work_at, PutTo, BegunAt}
 
 -- ---- putting down
 
-pub put_none : (x : ℕ) (here l : List ℕ) → PutTo 0 x here l l
-put_none x here l = record { own = λ q h. absurd (omega arith); others = λ w q h n. refl }
+module _ (a k : ℕ) (l part : List ℕ) (room : a + k ≤ length l) (size : length part ≡ k) where
+  front : length (take a l) ≡ a
+  front = length-take a l ∙ min-eq_left (omega arith)
 
-pub put_more : (x j : ℕ) (here old l : List ℕ) → PutTo j x here old l → j < 16 → x < 1024 → 16384 ≤ length l → PutTo (j + 1) x here old (set l (16 * x + j) (get_or here j 0))
-put_more x j here old l d h few long = record { own = λ q k. own q k (ℕ_discrete q j); others = λ w q k n. get_or-set_other l (work_at x j) (work_at w q) (get_or here j 0) 0 (λ e. n (omega arith)) ∙ d.others w q k n }
+  part_within : (q : ℕ) → q < k → get_or (put_mid a k l part) (a + q) 0 ≡ get_or part q 0
+  part_within q h =
+      get_or-append_right (take a l) (part ++ drop k (drop a l)) a (a + q) 0 front (omega arith)
+      ∙ ap (λ (i : ℕ). get_or (part ++ drop k (drop a l)) i 0) (omega arith)
+      ∙ get_or-append part (drop k (drop a l)) 0 q (omega arith)
+
+  part_below : (i : ℕ) → i < a → get_or (put_mid a k l part) i 0 ≡ get_or l i 0
+  part_below i h =
+      get_or-append (take a l) (part ++ drop k (drop a l)) 0 i (rw front h)
+      ∙ get_or-take a l i 0 h
+
+  part_above : (i : ℕ) → a + k ≤ i → get_or (put_mid a k l part) i 0 ≡ get_or l i 0
+  part_above i h =
+      get_or-append_right (take a l) (part ++ drop k (drop a l)) a i 0 front (omega arith)
+      ∙ get_or-append_right part (drop k (drop a l)) k (i - a) 0 size (omega arith)
+      ∙ get_or-drop k (drop a l) (i - a - k) 0 ∙ get_or-drop a l (k + (i - a - k)) 0
+      ∙ ap (λ (j : ℕ). get_or l j 0) (omega arith)
+
+-- a part of the buffer copied over
+pub put_all : (x : ℕ) (here part old : List ℕ) → part ≡ take 16 here → 16 ≤ length here → x < 1024 → 16384 ≤ length old
+    → PutTo 16 x here old (put_mid (16 * x) (16 * x + 16 - 16 * x) old part)
+put_all x here part old p long few room = rw k (record { own = own; others = λ w q h n. others w q h n (dec_lt w x) })
   where
-    own : (q : ℕ) → q < j + 1 → Dec (q ≡ j) → get_or (set l (work_at x j) (get_or here j 0)) (work_at x q) 0 ≡ get_or here q 0
-    own q k (yes z) = rw z (get_or-set_same l (work_at x j) (get_or here j 0) 0 (omega arith))
-    own q k (no n) = get_or-set_other l (work_at x j) (work_at x q) (get_or here j 0) 0 (λ e. n (omega arith)) ∙ d.own q (omega arith)
+    k : 16 * x + 16 - 16 * x ≡ 16
+    k = omega arith
 
-pub put_end : (x j : ℕ) (here old l : List ℕ) → j ≤ 16 → 16 ≤ j → PutTo j x here old l → PutTo 16 x here old l
-put_end x j here old l h k d = let e : j ≡ 16 = omega arith in rw e at d
+    size : length part ≡ 16
+    size = ap length p ∙ length-take 16 here ∙ min-eq_left long
 
-pub ruleset put_kit = (put_none, put_more, put_end)
+    own : (q : ℕ) → q < 16 → get_or (put_mid (16 * x) 16 old part) (work_at x q) 0 ≡ get_or here q 0
+    own q h = part_within (16 * x) 16 old part (omega arith) size q h ∙ ap (λ (l : List ℕ). get_or l q 0) p ∙ get_or-take 16 here q 0 h
+
+    others : (w q : ℕ) → q < 16 → (w ≡ x → ⊥) → Dec (w < x) → get_or (put_mid (16 * x) 16 old part) (work_at w q) 0 ≡ get_or old (work_at w q) 0
+    others w q h n (yes l) = part_below (16 * x) 16 old part (omega arith) size (work_at w q) (omega arith)
+    others w q h n (no l) = part_above (16 * x) 16 old part (omega arith) size (work_at w q) (past n l)
+      where
+        past : (w ≡ x → ⊥) → (w < x → ⊥) → 16 * x + 16 ≤ work_at w q
+        past n l = omega arith
 
 -- ---- the lanes that begin
 

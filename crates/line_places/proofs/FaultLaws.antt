@@ -1,16 +1,16 @@
 -- A place that is not 0 is at fault, and nothing further left is; where it is 0, nothing is.
 -- Assumes nothing.
-use Prim.Native.Nat.{ℕ, suc, ◌+◌, ◌≤◌, ◌<◌}
-use mathlib.Core.Path.{◌≡◌, refl, sym, ap, ◌∙◌}
-use mathlib.Core.Bool.{Bool, true, false, not, cond}
-use mathlib.Core.List.{List, []}
+use Prim.Native.Nat.{ℕ, suc, ◌<◌}
+use mathlib.Core.Path.{◌≡◌, refl}
+use mathlib.Core.Bool.{Bool, true, false, cond}
+use mathlib.Core.List.{List}
 use native.Mathlib.Omega.{arith}
 use borrow.Author.Tests.{ltb-true, ltb-false, not-true, not-false}
 use lib.Dec.{ltb}
 use lib.ListN.{length, get_or}
 use Rattle.lists.specs.Leftmost.{leftmost}
 use Rattle.lists.proofs.LeftmostLaws.{leftmost_passes, leftmost_first}
-use Rattle.text.specs.Lines.{printable_byte, TextLine}
+use Rattle.text.specs.Lines.{printable_byte}
 use Rattle.fields.specs.Fields.{part_start}
 use Rattle.line_places.specs.Place.{place_at, place_where, unprintable_at, unprintable_place}
 use Rattle.line_places.specs.Fault.{FieldAtFault, ByteAtFault}

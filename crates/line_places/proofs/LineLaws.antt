@@ -1,7 +1,7 @@
 -- A line of a text by its number: where it stands; and what makes it not whole, before its fields.
 -- Assumes nothing.
 use mathlib.Core.Path.{◌≡◌, refl, sym, ap, ◌∙◌}
-use mathlib.Core.Bool.{Bool, true, false, not, cond, ◌&&◌}
+use mathlib.Core.Bool.{Bool, true, false, cond, ◌&&◌}
 use mathlib.Core.List.{List, [], ◌∷◌, map}
 use Prim.Native.Nat.{ℕ, zero, suc, ◌+◌, ◌-◌, ◌≤◌, ◌<◌}
 use native.Mathlib.Omega.{arith}
@@ -13,16 +13,13 @@ use Rattle.lists.proofs.Parts.{rest_part}
 use Rattle.lists.specs.Leftmost.{leftmost}
 use Rattle.lists.proofs.LeftmostLaws.{leftmost_passes, leftmost_first, clash}
 use Rattle.text.specs.Split.{split, joined, first_part}
-use Rattle.text.specs.Lines.{TextLine, last_line, as_lines, lines_of, printable_byte, printable, whole}
+use Rattle.text.specs.Lines.{TextLine, as_lines, printable_byte, printable, whole}
 use Rattle.text.proofs.SplitLaws.{joined_split, split_empty, split_some, Cut, uncut, cut, cut_of}
 use Rattle.fields.specs.Fields.{part_start, field_of}
-use Rattle.fields.specs.declared.Field.{Field}
-use Rattle.fields.specs.declared.Field.TheVariants.{At, Missing}
+use Rattle.std.specs.Prelude.{Option, Some, None, Result, Ok, Err}
 use Rattle.fields.proofs.FieldLaws.{Selects, field_selects, field_missing}
 use Rattle.fields.proofs.PlaceLaws.{start_none, start_next}
 use Rattle.line_places.specs.Place.{unprintable_at, unprintable_place, broken_at, ranked_at, line_at, ended_line, as_whole, found_line, lines_bytes}
-use Rattle.line_places.specs.declared.LineFound.{LineFound}
-use Rattle.line_places.specs.declared.LineFound.TheVariants.{Whole, Broken}
 
 -- ---- the parts of a text at newlines are its lines
 
@@ -86,31 +83,33 @@ part_before b (p ∷ (q ∷ ps)) (suc i) h =
 
 -- ---- the answer of `find_line`
 
-module _ (text : List ℕ) (n i : ℕ) (index : i ≡ n - 1) (r : Field) (given : r ≡ field_of 10 text i) where
+module _ (text : List ℕ) (n i : ℕ) (index : i ≡ n - 1) (r : Option (ℕ × ℕ)) (given : r ≡ field_of 10 text i) where
   newline_is : (line_at text n).newline ≡ ltb (suc i) (length (split 10 text))
   newline_is = as_newline (split 10 text) (n - 1) ∙ ap (λ (k : ℕ). ltb (suc k) (length (split 10 text))) (sym index)
 
-  pub line_missing : r ≡ Missing → Missing ≡ ended_line text n
+  pub line_missing : r ≡ None → None ≡ ended_line text n
   unfolding ended_line
   line_missing p =
       let h = field_missing 10 text i (sym given ∙ p) in
       sym (rw (newline_is ∙ le-ltb (suc i) (length (split 10 text)) (omega arith)) refl)
 
-  module _ (x y : ℕ) (p : r ≡ At x y) where
+  module _ (x y : ℕ) (p : r ≡ Some (x, y)) where
     ends_at : y ≡ part_start (split 10 text) i + length (get_or (split 10 text) i [])
     ends_at = go (ltb i (length (split 10 text))) refl (sym p ∙ given)
       where
         go : (t : Bool) → ltb i (length (split 10 text)) ≡ t
-            → At x y ≡ cond t (At (part_start (split 10 text) i) (part_start (split 10 text) i + length (get_or (split 10 text) i []))) Missing
+            → Some (x, y) ≡ cond {A = Option (ℕ × ℕ)} t (Some (part_start (split 10 text) i, part_start (split 10 text) i + length (get_or (split 10 text) i []))) None
             → y ≡ part_start (split 10 text) i + length (get_or (split 10 text) i [])
-        go true e q = cc
+        go true e q =
+            let z : ◌≡◌ {A = ℕ × ℕ} (x, y) (part_start (split 10 text) i, part_start (split 10 text) i + length (get_or (split 10 text) i [])) = cc in
+            ap (λ (k : ℕ × ℕ). k.1) z
         go false e q = let z : ◌≡◌ {A = ℕ} 0 1 = cc in absurd (omega arith)
 
-    pub line_ended : y < length text → At x y ≡ ended_line text n
+    pub line_ended : y < length text → Some (x, y) ≡ ended_line text n
     unfolding ended_line
     line_ended h = go (ltb (suc i) (length (split 10 text))) refl
       where
-        go : (t : Bool) → ltb (suc i) (length (split 10 text)) ≡ t → At x y ≡ cond (line_at text n).newline (field_of 10 text (n - 1)) Missing
+        go : (t : Bool) → ltb (suc i) (length (split 10 text)) ≡ t → Some (x, y) ≡ cond (line_at text n).newline (field_of 10 text (n - 1)) None
         go true e = sym p ∙ given ∙ ap (field_of 10 text) index ∙ sym (rw (newline_is ∙ e) refl)
         go false e =
             let k = ltb-false (suc i) (length (split 10 text)) e in
@@ -120,11 +119,11 @@ module _ (text : List ℕ) (n i : ℕ) (index : i ≡ n - 1) (r : Field) (given 
             let w = ends_at in
             absurd (omega arith)
 
-    pub line_unended : length text ≤ y → Missing ≡ ended_line text n
+    pub line_unended : length text ≤ y → None ≡ ended_line text n
     unfolding ended_line
     line_unended h = go (ltb (suc i) (length (split 10 text))) refl
       where
-        go : (t : Bool) → ltb (suc i) (length (split 10 text)) ≡ t → Missing ≡ cond (line_at text n).newline (field_of 10 text (n - 1)) Missing
+        go : (t : Bool) → ltb (suc i) (length (split 10 text)) ≡ t → None ≡ cond (line_at text n).newline (field_of 10 text (n - 1)) None
         go true e =
             let k = ltb-true (suc i) (length (split 10 text)) e in
             let z = part_before 10 (split 10 text) i k in
@@ -137,27 +136,27 @@ pub ruleset find_kit = (line_missing, line_ended, line_unended)
 
 -- ---- what it tells of the line
 
-module _ (text : List ℕ) (n : ℕ) (r : Field) (given : r ≡ ended_line text n) where
-  pub lacks_newline : r ≡ Missing → (line_at text n).newline ≡ false
+module _ (text : List ℕ) (n : ℕ) (r : Option (ℕ × ℕ)) (given : r ≡ ended_line text n) where
+  pub lacks_newline : r ≡ None → (line_at text n).newline ≡ false
   unfolding ended_line
   lacks_newline p = go (line_at text n).newline refl (sym p ∙ given)
     where
-      go : (t : Bool) → (line_at text n).newline ≡ t → Missing ≡ cond t (field_of 10 text (n - 1)) Missing → (line_at text n).newline ≡ false
+      go : (t : Bool) → (line_at text n).newline ≡ t → None ≡ cond t (field_of 10 text (n - 1)) None → (line_at text n).newline ≡ false
       go true e q = missing (as_newline (split 10 text) (n - 1)) e q
         where
-          missing : (line_at text n).newline ≡ ltb (suc (n - 1)) (length (split 10 text)) → (line_at text n).newline ≡ true → Missing ≡ field_of 10 text (n - 1)
+          missing : (line_at text n).newline ≡ ltb (suc (n - 1)) (length (split 10 text)) → (line_at text n).newline ≡ true → None ≡ field_of 10 text (n - 1)
               → (line_at text n).newline ≡ false
           missing a b c =
               let h = field_missing 10 text (n - 1) (sym c) in
               a ∙ le-ltb (suc (n - 1)) (length (split 10 text)) (omega arith)
       go false e q = e
 
-  module _ (x y : ℕ) (p : r ≡ At x y) where
+  module _ (x y : ℕ) (p : r ≡ Some (x, y)) where
     has : ((line_at text n).newline ≡ true) × Selects 10 text (n - 1) x y
     unfolding ended_line
     has = go (line_at text n).newline refl (sym p ∙ given)
       where
-        go : (t : Bool) → (line_at text n).newline ≡ t → At x y ≡ cond t (field_of 10 text (n - 1)) Missing
+        go : (t : Bool) → (line_at text n).newline ≡ t → Some (x, y) ≡ cond t (field_of 10 text (n - 1)) None
             → ((line_at text n).newline ≡ true) × Selects 10 text (n - 1) x y
         go true e q = (e, field_selects 10 text (n - 1) x y (sym q))
         go false e q = let z : ◌≡◌ {A = ℕ} 0 1 = cc in absurd (omega arith)
@@ -231,18 +230,18 @@ module _ (bs : List ℕ) where
       go true p = let l = ltb-true first (length bs) p in omega arith
       go false p = omega arith
 
-module _ (most : ℕ) (text : List ℕ) (n : ℕ) (r : Field) (given : r ≡ ended_line text n) where
-  pub found_missing : r ≡ Missing → Broken 0 ≡ found_line most text n
+module _ (most : ℕ) (text : List ℕ) (n : ℕ) (r : Option (ℕ × ℕ)) (given : r ≡ ended_line text n) where
+  pub found_missing : r ≡ None → Err 0 ≡ found_line most text n
   unfolding found_line
   found_missing p =
       let e = lacks_newline text n r given p in
       sym (rw e (same (leb (length (line_at text n).bytes) most)))
     where
-      same : (t : Bool) → cond (t && (false && printable (line_at text n).bytes)) (as_whole (ended_line text n)) (Broken (cond (t && false) (unprintable_place (line_at text n).bytes) 0)) ≡ Broken 0
+      same : (t : Bool) → cond (t && (false && printable (line_at text n).bytes)) (as_whole (ended_line text n)) (Err (cond (t && false) (unprintable_place (line_at text n).bytes) 0)) ≡ Err 0
       same true = refl
       same false = refl
 
-  module _ (x y : ℕ) (p : r ≡ At x y) where
+  module _ (x y : ℕ) (p : r ≡ Some (x, y)) where
     bs : List ℕ
     bs = take (y - x) (drop x text)
 
@@ -253,7 +252,7 @@ module _ (most : ℕ) (text : List ℕ) (n : ℕ) (r : Field) (given : r ≡ end
         let d = length-drop x text in
         length-take-le (y - x) (drop x text) (omega arith)
 
-    pub found_long : most < y - x → Broken 0 ≡ found_line most text n
+    pub found_long : most < y - x → Err 0 ≡ found_line most text n
     unfolding found_line
     found_long h =
         let s = size in
@@ -263,13 +262,13 @@ module _ (most : ℕ) (text : List ℕ) (n : ℕ) (r : Field) (given : r ≡ end
       short : leb (length (take (y - x) (drop x text))) most ≡ true
       short = let s = size in le-leb (length (take (y - x) (drop x text))) most (omega arith)
 
-      pub found_unprintable : 0 < q → Broken q ≡ found_line most text n
+      pub found_unprintable : 0 < q → Err q ≡ found_line most text n
       unfolding found_line
       found_unprintable k =
-          ap Broken found
+          ap Err found
           ∙ sym (rw (line_is text n r given x y p) (simp (short, place_unprintable (take (y - x) (drop x text)) (let e = found in omega arith))))
 
-      pub found_whole : q ≤ 0 → Whole x y ≡ found_line most text n
+      pub found_whole : q ≤ 0 → Ok (x, y) ≡ found_line most text n
       unfolding found_line
       found_whole k =
           ap as_whole (sym p ∙ given)
@@ -279,17 +278,17 @@ pub ruleset inspect_kit = (line_ordered, line_inside, found_missing, found_long,
 
 -- ---- what the answer of `inspect_line` tells
 
-module _ (most : ℕ) (text : List ℕ) (n : ℕ) (r : LineFound) (given : r ≡ found_line most text n) where
-  pub ranked_broken : (p in_fields : ℕ) → r ≡ Broken p → p ≡ ranked_at most (line_at text n) in_fields
+module _ (most : ℕ) (text : List ℕ) (n : ℕ) (r : Result (ℕ × ℕ) ℕ) (given : r ≡ found_line most text n) where
+  pub ranked_broken : (p in_fields : ℕ) → r ≡ Err p → p ≡ ranked_at most (line_at text n) in_fields
   unfolding found_line ranked_at
   ranked_broken p in_fields q = go (whole most (line_at text n)) refl (line_at text n).newline refl (sym q ∙ given)
     where
-      none : ended_line text n ≡ Missing → (line_at text n).newline ≡ true → p ≡ in_fields
-      none e f = clash (line_at text n).newline f (lacks_newline text n Missing (sym e) refl)
+      none : ended_line text n ≡ None → (line_at text n).newline ≡ true → p ≡ in_fields
+      none e f = clash (line_at text n).newline f (lacks_newline text n None (sym e) refl)
 
-      asked : (x : Field) → ended_line text n ≡ x → whole most (line_at text n) ≡ true → Broken p ≡ as_whole x → p ≡ in_fields
-      asked (At x y) e w z = let k : ◌≡◌ {A = ℕ} 0 1 = cc in absurd (omega arith)
-      asked Missing e w z = none e (newline_of (leb (length (line_at text n).bytes) most) (line_at text n).newline (printable (line_at text n).bytes) w)
+      asked : (x : Option (ℕ × ℕ)) → ended_line text n ≡ x → whole most (line_at text n) ≡ true → Err p ≡ as_whole x → p ≡ in_fields
+      asked (Some (x, y)) e w z = let k : ◌≡◌ {A = ℕ} 0 1 = cc in absurd (omega arith)
+      asked None e w z = none e (newline_of (leb (length (line_at text n).bytes) most) (line_at text n).newline (printable (line_at text n).bytes) w)
         where
           newline_of : (a b c : Bool) → (a && (b && c)) ≡ true → b ≡ true
           newline_of true true c w = refl
@@ -298,31 +297,31 @@ module _ (most : ℕ) (text : List ℕ) (n : ℕ) (r : LineFound) (given : r ≡
           newline_of false false c w = w
 
       go : (t : Bool) → whole most (line_at text n) ≡ t → (u : Bool) → (line_at text n).newline ≡ u
-          → Broken p ≡ cond t (as_whole (ended_line text n)) (Broken (broken_at most (line_at text n)))
+          → Err p ≡ cond t (as_whole (ended_line text n)) (Err (broken_at most (line_at text n)))
           → p ≡ cond (whole most (line_at text n)) in_fields (broken_at most (line_at text n))
       go true e u f z = rw e (asked (ended_line text n) refl e z)
       go false e u f z = let k : p ≡ broken_at most (line_at text n) = cc in rw e k
 
-  module _ (x y : ℕ) (q : r ≡ Whole x y) where
-    whole_passes : (whole most (line_at text n) ≡ true) × (ended_line text n ≡ At x y)
+  module _ (x y : ℕ) (q : r ≡ Ok (x, y)) where
+    whole_passes : (whole most (line_at text n) ≡ true) × (ended_line text n ≡ Some (x, y))
     unfolding found_line
     whole_passes = go (whole most (line_at text n)) refl (ended_line text n) refl (sym q ∙ given)
       where
-        go : (t : Bool) → whole most (line_at text n) ≡ t → (f : Field) → ended_line text n ≡ f
-            → Whole x y ≡ cond t (as_whole f) (Broken (broken_at most (line_at text n)))
-            → (whole most (line_at text n) ≡ true) × (ended_line text n ≡ At x y)
-        go true e (At a b) f z = let k : a ≡ x = cc in let l : b ≡ y = cc in (e, f ∙ rw (k, l) refl)
-        go true e Missing f z = let k : ◌≡◌ {A = ℕ} 0 1 = cc in absurd (omega arith)
+        go : (t : Bool) → whole most (line_at text n) ≡ t → (f : Option (ℕ × ℕ)) → ended_line text n ≡ f
+            → Ok (x, y) ≡ cond t (as_whole f) (Err (broken_at most (line_at text n)))
+            → (whole most (line_at text n) ≡ true) × (ended_line text n ≡ Some (x, y))
+        go true e (Some (a, b)) f z = let k : ◌≡◌ {A = ℕ × ℕ} (a, b) (x, y) = cc in (e, f ∙ rw k refl)
+        go true e None f z = let k : ◌≡◌ {A = ℕ} 0 1 = cc in absurd (omega arith)
         go false e f g z = let k : ◌≡◌ {A = ℕ} 0 1 = cc in absurd (omega arith)
 
     pub whole_ordered : x ≤ y
-    whole_ordered = line_ordered text n (At x y) (sym whole_passes.1) x y refl
+    whole_ordered = line_ordered text n (Some (x, y)) (sym whole_passes.1) x y refl
 
     pub whole_inside : y ≤ length text
-    whole_inside = line_inside text n (At x y) (sym whole_passes.1) x y refl
+    whole_inside = line_inside text n (Some (x, y)) (sym whole_passes.1) x y refl
 
     pub whole_line : line_at text n ≡ record { bytes = take (y - x) (drop x text); newline = true }
-    whole_line = line_is text n (At x y) (sym whole_passes.1) x y refl
+    whole_line = line_is text n (Some (x, y)) (sym whole_passes.1) x y refl
 
     pub whole_bytes : (line_at text n).bytes ≡ take (y - x) (drop x text)
     whole_bytes = ap (λ (l : TextLine). l.bytes) whole_line

@@ -1,24 +1,21 @@
 -- Places as the loops find them, and how far a place can be.
 -- Assumes nothing.
-use mathlib.Core.Path.{◌≡◌, refl, sym, ap, ◌∙◌, subst}
-use mathlib.Core.Bool.{Bool, true, false, not, cond, ◌&&◌}
-use mathlib.Core.List.{List, [], ◌∷◌}
-use Prim.Native.Nat.{ℕ, zero, suc, ◌+◌, ◌-◌, ◌*◌, ◌^◌, ◌≤◌, ◌<◌}
+use mathlib.Core.Path.{◌≡◌, refl, sym, ap, ◌∙◌}
+use mathlib.Core.Bool.{Bool, true, false, cond}
+use mathlib.Core.List.{List, []}
+use Prim.Native.Nat.{ℕ, suc, ◌+◌, ◌*◌, ◌^◌, ◌≤◌, ◌<◌}
 use native.Mathlib.Omega.{arith}
 use native.Mathlib.Numerals.{add-one}
-use borrow.Author.Tests.{le-leb, lt-leb, lt-ltb, le-ltb, ltb-true, ltb-false}
-use lib.Dec.{leb, ltb}
+use borrow.Author.Tests.{le-leb, lt-leb, lt-ltb, le-ltb, ltb-true}
+use lib.Dec.{ltb}
 use lib.ListN.{length, get_or}
-use Rattle.lists.specs.Leftmost.{leftmost}
-use Rattle.lists.proofs.LeftmostLaws.{NoneBelow, below_none, below_more, leftmost_is, leftmost_here, leftmost_none, leftmost_passes, leftmost_first, leftmost_most}
+use Rattle.lists.proofs.LeftmostLaws.{NoneBelow, below_none, below_more, leftmost_is, leftmost_none}
 use Rattle.text.specs.Split.{split}
-use Rattle.text.specs.Lines.{TextLine, printable_byte, printable, whole}
 use Rattle.text.proofs.SplitLaws.{joined_split}
 use Rattle.fields.specs.Fields.{part_start, field_of}
-use Rattle.fields.specs.declared.Field.{Field}
-use Rattle.fields.specs.declared.Field.TheVariants.{At, Missing}
+use Rattle.std.specs.Prelude.{Option, Some, None}
 use Rattle.fields.proofs.PlaceLaws.{part_inside}
-use Rattle.line_places.specs.Place.{place_at, place_where, unprintable_at, unprintable_place, broken_at, ranked_at}
+use Rattle.line_places.specs.Place.{place_at, place_where, Computes, unprintable_at, unprintable_place}
 
 -- ---- a field's place
 
@@ -30,28 +27,30 @@ pub place_lacking : (fs : List (List ℕ)) (i : ℕ) → length fs ≤ i → pla
 unfolding place_at
 place_lacking fs i h = simp (le-ltb i (length fs) h)
 
-module _ (l : List ℕ) (i : ℕ) (r : Field) (given : r ≡ field_of 32 l i) where
-  pub at_missing : r ≡ Missing → 0 ≡ place_at (split 32 l) i
+module _ (l : List ℕ) (i : ℕ) (r : Option (ℕ × ℕ)) (given : r ≡ field_of 32 l i) where
+  pub at_missing : r ≡ None → 0 ≡ place_at (split 32 l) i
   unfolding place_at
   at_missing p = go (ltb i (length (split 32 l))) refl (sym p ∙ given)
     where
       go : (t : Bool) → ltb i (length (split 32 l)) ≡ t
-          → Missing ≡ cond t (At (part_start (split 32 l) i) (part_start (split 32 l) i + length (get_or (split 32 l) i []))) Missing
+          → None ≡ cond {A = Option (ℕ × ℕ)} t (Some (part_start (split 32 l) i, part_start (split 32 l) i + length (get_or (split 32 l) i []))) None
           → 0 ≡ cond (ltb i (length (split 32 l))) (suc (part_start (split 32 l) i)) 0
       go true e q = let z : ◌≡◌ {A = ℕ} 0 1 = cc in absurd (omega arith)
       go false e q = sym (rw e refl)
 
-  pub at_start : (x y : ℕ) → r ≡ At x y → x + 1 ≡ place_at (split 32 l) i
+  pub at_start : (x y : ℕ) → r ≡ Some (x, y) → x + 1 ≡ place_at (split 32 l) i
   unfolding place_at
   at_start x y p = go (ltb i (length (split 32 l))) refl (sym p ∙ given)
     where
       go : (t : Bool) → ltb i (length (split 32 l)) ≡ t
-          → At x y ≡ cond t (At (part_start (split 32 l) i) (part_start (split 32 l) i + length (get_or (split 32 l) i []))) Missing
+          → Some (x, y) ≡ cond {A = Option (ℕ × ℕ)} t (Some (part_start (split 32 l) i, part_start (split 32 l) i + length (get_or (split 32 l) i []))) None
           → x + 1 ≡ cond (ltb i (length (split 32 l))) (suc (part_start (split 32 l) i)) 0
-      go true e q = let z : x ≡ part_start (split 32 l) i = cc in rw e (add-one x ∙ ap suc z)
+      go true e q =
+          let z : ◌≡◌ {A = ℕ × ℕ} (x, y) (part_start (split 32 l) i, part_start (split 32 l) i + length (get_or (split 32 l) i [])) = cc in
+          rw e (add-one x ∙ ap (λ (k : ℕ × ℕ). suc k.0) z)
       go false e q = let z : ◌≡◌ {A = ℕ} 0 1 = cc in absurd (omega arith)
 
--- At most 1 plus the bytes of the line.
+-- Some (most, 1) plus the bytes of the line.
 pub place_most : (l : List ℕ) (i : ℕ) → place_at (split 32 l) i ≤ length l + 1
 unfolding place_at
 place_most l i = go (ltb i (length (split 32 l))) refl
@@ -63,7 +62,7 @@ place_most l i = go (ltb i (length (split 32 l))) refl
         omega arith
     go false e = omega arith
 
-pub start_fits : (l : List ℕ) (i x y : ℕ) (r : Field) → r ≡ field_of 32 l i → r ≡ At x y → length l * 1 < 2 ^ 63 → x + 1 < 2 ^ 64
+pub start_fits : (l : List ℕ) (i x y : ℕ) (r : Option (ℕ × ℕ)) → r ≡ field_of 32 l i → r ≡ Some (x, y) → length l * 1 < 2 ^ 63 → x + 1 < 2 ^ 64
 start_fits l i x y r given p h =
     let e = at_start l i r given x y p in
     let m = place_most l i in
@@ -73,14 +72,16 @@ pub ruleset place_kit = (at_missing, at_start, start_fits)
 
 -- ---- the search for the leftmost field that passes: n fields, none of those before i passes
 
-module _ (f : ℕ → Bool) (fs : List (List ℕ)) (i : ℕ) (passed : NoneBelow f i) (n : ℕ) (count : n ≡ length fs) where
-  pub where_found : (r : Bool) → i < n → r ≡ f i → r ≡ true → (p : ℕ) → p ≡ place_at fs i → p ≡ place_where f fs
-  where_found r h g e p q = q ∙ ap (place_at fs) (leftmost_here f i passed (length fs) r (omega arith) g e)
+module _ (answers : ℕ → Bool → Type 0) (fs : List (List ℕ)) (i : ℕ) (below : (j : ℕ) → j < i → answers j false) (f : ℕ → Bool)
+    (computes : Computes answers (length fs) f) where
+  none_below : i ≤ length fs → NoneBelow f i
+  none_below h = record { none = λ j k. sym (computes j false (omega arith) (below j k)) }
 
-  pub where_none : i ≤ n → n ≤ i → 0 ≡ place_where f fs
-  where_none h k = sym (ap (place_at fs) (sym (leftmost_none f i passed (length fs) (omega arith) (omega arith))) ∙ place_lacking fs i (omega arith))
+  pub where_found : i < length fs → (r : Bool) → answers i r → r ≡ true → (p : ℕ) → p ≡ place_at fs i → p ≡ place_where f fs
+  where_found h r y t p q = q ∙ ap (place_at fs) (leftmost_is f i (none_below (omega arith)) (length fs) h (sym (computes i r h y) ∙ t))
 
-pub ruleset where_kit = (below_none, below_more, where_found, where_none)
+  pub where_none : i ≤ length fs → length fs ≤ i → 0 ≡ place_where f fs
+  where_none h k = sym (ap (place_at fs) (sym (leftmost_none f i (none_below h) (length fs) h k)) ∙ place_lacking fs i k)
 
 -- ---- the first byte outside 32 to 126
 

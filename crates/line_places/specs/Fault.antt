@@ -1,5 +1,5 @@
 -- What a place that is not 0 says: something stands there that is at fault, and nothing of the same rank is at fault further left.
-use Rattle.std.specs.Prelude.{ℕ, suc, ◌<◌, ◌≡◌, Bool, true, false, List, T, length, get_or}
+use Rattle.std.specs.Prelude.{ℕ, suc, ◌<◌, ◌≡◌, Bool, true, false, List, length, get_or}
 use Rattle.text.specs.Lines.{printable_byte}
 use Rattle.fields.specs.Fields.{part_start}
 

@@ -1,13 +1,9 @@
 -- Places in a line (Ask 2): a place counts from 1, and 0 stands where no single place is at fault. A field's place is 1 plus the bytes of the
 -- line before it; an empty field has the place where it would begin.
-use Rattle.std.specs.Prelude.{ℕ, suc, ◌-◌, Bool, false, not, cond, ◌&&◌, List, [], map, leb, ltb, length, get_or}
+use Rattle.std.specs.Prelude.{ℕ, suc, ◌-◌, ◌<◌, ◌≡◌, Bool, false, not, cond, ◌&&◌, List, [], map, leb, ltb, length, get_or, Option, None, ok_or, Result, Err}
 use Rattle.lists.specs.Leftmost.{leftmost}
 use Rattle.text.specs.Lines.{TextLine, lines_of, printable_byte, whole}
 use Rattle.fields.specs.Fields.{part_start, field_of}
-use Rattle.fields.specs.declared.Field.{Field}
-use Rattle.fields.specs.declared.Field.TheVariants.{At, Missing}
-use Rattle.line_places.specs.declared.LineFound.{LineFound}
-use Rattle.line_places.specs.declared.LineFound.TheVariants.{Whole, Broken}
 
 -- The place of the field with index i; 0 where the line lacks it.
 unfoldable pub place_at : List (List ℕ) → ℕ → ℕ
@@ -16,6 +12,10 @@ place_at fs i = cond (ltb i (length fs)) (suc (part_start fs i)) 0
 -- The place of the leftmost field that passes a test of its index; 0 where none does.
 abbrev pub place_where : (ℕ → Bool) → List (List ℕ) → ℕ
 place_where f fs = place_at fs (leftmost f (length fs))
+
+-- What a test answers for the indexes below n is what f gives.
+abbrev pub Computes : (ℕ → Bool → Type 0) → ℕ → (ℕ → Bool) → Type 0
+Computes answers n f = (i : ℕ) (b : Bool) → i < n → answers i b → b ≡ f i
 
 -- The byte with index i is outside 32 to 126.
 abbrev pub unprintable_at : List ℕ → ℕ → Bool
@@ -42,13 +42,12 @@ abbrev pub line_at : List ℕ → ℕ → TextLine
 line_at text n = get_or (lines_of text) (n - 1) (record { bytes = []; newline = false })
 
 -- Where its bytes begin and end in the text, if it has its newline.
-unfoldable pub ended_line : List ℕ → ℕ → Field
-ended_line text n = cond (line_at text n).newline (field_of 10 text (n - 1)) Missing
+unfoldable pub ended_line : List ℕ → ℕ → Option (ℕ × ℕ)
+ended_line text n = cond (line_at text n).newline (field_of 10 text (n - 1)) None
 
 -- The line as it is found: whole, or its place at fault.
-abbrev pub as_whole : Field → LineFound
-as_whole (At x y) = Whole x y
-as_whole Missing = Broken 0
+abbrev pub as_whole : Option (ℕ × ℕ) → Result (ℕ × ℕ) ℕ
+as_whole place = ok_or place 0
 
-unfoldable pub found_line : ℕ → List ℕ → ℕ → LineFound
-found_line most text n = cond (whole most (line_at text n)) (as_whole (ended_line text n)) (Broken (broken_at most (line_at text n)))
+unfoldable pub found_line : ℕ → List ℕ → ℕ → Result (ℕ × ℕ) ℕ
+found_line most text n = cond (whole most (line_at text n)) (as_whole (ended_line text n)) (Err (broken_at most (line_at text n)))

@@ -1,8 +1,8 @@
 -- The leftmost number that passes a test: it passes, none before it does, and a loop that stops at the first that passes finds it.
 -- Assumes nothing.
 use Prim.Native.Nat.{ℕ, zero, suc, ◌+◌, ◌≤◌, ◌<◌}
-use mathlib.Core.Path.{◌≡◌, refl, sym, ap, ◌∙◌, subst}
-use mathlib.Core.Bool.{Bool, true, false, cond}
+use mathlib.Core.Path.{◌≡◌, refl, sym, ◌∙◌, subst}
+use mathlib.Core.Bool.{Bool, true, false}
 use mathlib.Core.Logic.{◌⊎◌, inl, inr}
 use native.Mathlib.Nat.{eq-or-lt_of_le}
 use native.Mathlib.Omega.{arith}
@@ -109,9 +109,6 @@ module _ (f : ℕ → Bool) (i : ℕ) (passed : NoneBelow f i) where
           let m = ltb-false i (leftmost f n) b in
           omega arith
 
-  pub leftmost_here : (n : ℕ) (r : Bool) → i < n → r ≡ f i → r ≡ true → i ≡ leftmost f n
-  leftmost_here n r h g e = leftmost_is n h (sym g ∙ e)
-
   pub leftmost_none : (n : ℕ) → i ≤ n → n ≤ i → i ≡ leftmost f n
   leftmost_none n h k = go (ltb (leftmost f n) n) refl
     where
@@ -120,5 +117,3 @@ module _ (f : ℕ → Bool) (i : ℕ) (passed : NoneBelow f i) where
           let l = ltb-true (leftmost f n) n a in
           clash (f (leftmost f n)) (leftmost_passes f n l) (passed.none (leftmost f n) (omega arith))
       go false a = let l = ltb-false (leftmost f n) n a in let b = leftmost_most f n in omega arith
-
-pub ruleset leftmost_kit = (below_none, below_more, leftmost_here, leftmost_none)

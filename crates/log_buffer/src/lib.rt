@@ -1,159 +1,161 @@
-// The places and the links of a log buffer: are they those that an accepted log text gives?
+// The numbers of a lent log buffer, each read under its name; and the test of its links: are they those that an accepted log text gives?
 // No number of the buffer is used as a place before it has been looked at.
 #![tactic(auto)]
 
-ghost use Rattle.std.specs.Prelude.{◌≡◌, ◌<◌, ◌≤◌, ◌+◌, true, length};
+ghost use Rattle.std.specs.Prelude.{◌≡◌, ◌<◌, ◌≤◌, ◌+◌, ◌-◌, ℕ, List, true, length, MatchOption};
 ghost use Rattle.lists.specs.Places.{at};
 ghost use Rattle.sets.specs.Sets.{all_below};
-ghost use Rattle.layout.specs.Layout.{log_length, most_steps, most_links, begin_at};
+ghost use Rattle.layout.specs.Layout.{log_length, most_steps, most_links, labels_at, board_at, begin_at, link_at};
 ghost use Rattle.log_buffer.specs.Meaning.{steps_in};
 ghost use Rattle.log_buffer.specs.Valid.{begin_ok, link_ok, links_ok, rest_ok, graph_ok};
+
+use std::marker::Model;
 
 // The number at a place, as a place or a count.
 pub fn number_at(buffer: &[u16], i: usize) -> usize
     requires { i < length buffer.now }
     ensures { result ≡ at buffer.now i }
 {
-    lists::wide(buffer[i])
+    usize::from(buffer[i])
 }
 
-// Where the links of the step after v begin: 1 to 8 places after those of v, and for step 0 at the same; zeros past the last step.
-fn begin_ok(buffer: &[u16], v: usize) -> bool
-    requires log_length_in_bounds { log_length ≤ length buffer.now }
-    requires v_bound { v < 1024 }
-    ensures { result ≡ begin_ok buffer.now v }
-{
-    let begin = number_at(buffer, layout::BEGINS + v);
-    let end = number_at(buffer, layout::BEGINS + (v + 1));
-    if v >= number_at(buffer, 0) {
-        return end == 0;
-    }
-    if v == 0 {
-        return end == begin;
-    }
-    if end <= begin {
-        return false;
-    }
-    end - begin <= 8
+// A lent buffer as long as a log's.
+#[derive(Drop)]
+pub struct LogNumbers<'a> {
+    numbers: &'a [u16],
 }
 
-// The places where the links of all steps begin.
-fn all_begins(buffer: &[u16]) -> bool
-    requires { log_length ≤ length buffer.now }
-    ensures { result ≡ all_below 1024 (begin_ok buffer.now) }
-{
-    let mut v = 0;
-    while v < layout::MOST_STEPS {
-        if !begin_ok(buffer, v) {
-            return false;
+// In contracts it is the list of its numbers.
+impl<'a> Model for LogNumbers<'a> {
+    ghost Value = { List ℕ };
+
+    ghost view = { λ log. log.numbers.now };
+
+    ghost invariant = { λ log. log_length ≤ length log.numbers.now };
+}
+
+impl<'a> LogNumbers<'a> {
+    // None where the buffer is too short.
+    pub fn new(numbers: &'a [u16]) -> Option<Self>
+        ensures { MatchOption result (length numbers.now < log_length) (λ log. log ≡ numbers.now) }
+    {
+        if numbers.len() < layout::LOG_LENGTH {
+            None
+        } else {
+            Some(LogNumbers { numbers })
         }
-        v += 1;
     }
-    true
-}
 
-// The link at place i, one of step v: smaller than v, and larger than the one before it where it is not the first of v.
-fn link_ok(buffer: &[u16], v: usize, i: usize) -> bool
-    requires log_length_in_bounds { log_length ≤ length buffer.now }
-    requires v_bound { v < 1024 }
-    requires v_bound_2 { at buffer.now (begin_at v) ≤ i }
-    requires i_lt_most_links { i < most_links }
-    ensures { result ≡ link_ok buffer.now v i }
-{
-    let u = number_at(buffer, layout::LINKS + i);
-    if u >= v {
-        return false;
+    pub fn steps(&self) -> usize
+        ensures { result ≡ steps_in self.now }
+    {
+        usize::from(self.numbers[0])
     }
-    if i == number_at(buffer, layout::BEGINS + v) {
-        return true;
-    }
-    number_at(buffer, layout::LINKS + (i - 1)) < u
-}
 
-// The links of step v.
-fn links_ok(buffer: &[u16], v: usize) -> bool
-    requires log_length_in_bounds { log_length ≤ length buffer.now }
-    requires v_bound { v < 1024 }
-    requires v_bound_2 { v < steps_in buffer.now → at buffer.now (begin_at (v + 1)) ≤ most_links }
-    ensures { result ≡ links_ok buffer.now v }
-{
-    if v >= number_at(buffer, 0) {
-        return true;
+    // The label set and the board of the step v.
+    pub fn label_set(&self, v: usize) -> u16
+        requires { v < most_steps }
+        ensures { result ≡ at self.now (labels_at v) }
+    {
+        self.numbers[layout::LABEL_SETS + v]
     }
-    let begin = number_at(buffer, layout::BEGINS + v);
-    let end = number_at(buffer, layout::BEGINS + (v + 1));
-    let mut i = begin;
-    while i < end {
-        if !link_ok(buffer, v, i) {
-            return false;
+
+    pub fn board(&self, v: usize) -> u16
+        requires { v < most_steps }
+        ensures { result ≡ at self.now (board_at v) }
+    {
+        self.numbers[layout::BOARDS + v]
+    }
+
+    // Where its links begin; and, past the last step, how many there are in all.
+    pub fn begin(&self, v: usize) -> usize
+        requires { v ≤ most_steps }
+        ensures { result ≡ at self.now (begin_at v) }
+    {
+        usize::from(self.numbers[layout::BEGINS + v])
+    }
+
+    // The link at place i.
+    pub fn link(&self, i: usize) -> usize
+        requires { i < most_links }
+        ensures { result ≡ at self.now (link_at i) }
+    {
+        usize::from(self.numbers[layout::LINKS + i])
+    }
+
+    // Where the links of the step after v begin: 1 to 8 places after those of v, and for step 0 at the same; zeros past the last step.
+    fn begin_ok(&self, v: usize) -> bool
+        requires { v < most_steps }
+        ensures { result ≡ begin_ok self.now v }
+    {
+        let begin = self.begin(v);
+        let end = self.begin(v + 1);
+        if v >= self.steps() {
+            end == 0
+        } else if v == 0 {
+            end == begin
+        } else {
+            begin < end && end - begin <= layout::MOST_PREDS
         }
-        i += 1;
     }
-    true
-}
 
-// The links of all steps, whose places have been looked at.
-fn all_links(buffer: &[u16]) -> bool
-    requires log_length_in_bounds { log_length ≤ length buffer.now }
-    requires buffer_bound { steps_in buffer.now ≤ most_steps }
-    requires buffer_value { all_below 1024 (begin_ok buffer.now) ≡ true }
-    requires buffer_bound_2 { at buffer.now (begin_at (steps_in buffer.now)) ≤ most_links }
-    ensures { result ≡ all_below 1024 (links_ok buffer.now) }
-{
-    let mut v = 0;
-    while v < layout::MOST_STEPS {
-        if !links_ok(buffer, v) {
-            return false;
+    // The places where the links of all steps begin.
+    fn all_begins(&self) -> bool
+        ensures { result ≡ all_below 1024 (begin_ok self.now) }
+    {
+        (0..layout::MOST_STEPS).all(|v| self.begin_ok(v))
+    }
+
+    // The link at place i, one of step v: smaller than v, and larger than the one before it where it is not the first of v.
+    fn link_ok(&self, v: usize, i: usize) -> bool
+        requires { (v < most_steps) × (at self.now (begin_at v) ≤ i) × (i < most_links) }
+        ensures { result ≡ link_ok self.now v i }
+    {
+        let u = self.link(i);
+        u < v && (i == self.begin(v) || self.link(i - 1) < u)
+    }
+
+    // The links of step v.
+    fn links_ok(&self, v: usize) -> bool
+        requires v_bound { v < most_steps }
+        requires end_bound { v < steps_in self.now → at self.now (begin_at (v + 1)) ≤ most_links }
+        ensures { result ≡ links_ok self.now v }
+    {
+        if v >= self.steps() {
+            return true;
         }
-        v += 1;
+        (self.begin(v)..self.begin(v + 1)).all(|i| self.link_ok(v, i))
     }
-    true
-}
 
-// How many links there are: where those after the last step's would begin.
-fn link_total(buffer: &[u16]) -> usize
-    requires log_length_in_bounds { log_length ≤ length buffer.now }
-    requires buffer_bound { steps_in buffer.now ≤ most_steps }
-    ensures { result ≡ at buffer.now (begin_at (steps_in buffer.now)) }
-{
-    let steps = number_at(buffer, 0);
-    number_at(buffer, layout::BEGINS + steps)
-}
+    // The links of all steps, whose places have been looked at.
+    fn all_links(&self) -> bool
+        requires steps_bound { steps_in self.now ≤ most_steps }
+        requires begins { all_below 1024 (begin_ok self.now) ≡ true }
+        requires total_bound { at self.now (begin_at (steps_in self.now)) ≤ most_links }
+        ensures { result ≡ all_below 1024 (links_ok self.now) }
+    {
+        (0..layout::MOST_STEPS).all(|v| self.links_ok(v))
+    }
 
-// Zeros past the last link.
-fn all_rest(buffer: &[u16]) -> bool
-    requires log_length_in_bounds { log_length ≤ length buffer.now }
-    requires buffer_bound { steps_in buffer.now ≤ most_steps }
-    requires buffer_bound_2 { at buffer.now (begin_at (steps_in buffer.now)) ≤ most_links }
-    ensures { result ≡ all_below 4096 (rest_ok buffer.now) }
-{
-    let mut i = link_total(buffer);
-    while i < layout::MOST_LINKS {
-        if buffer[layout::LINKS + i] != 0 {
-            return false;
-        }
-        i += 1;
+    // Zeros past the last link.
+    fn all_rest(&self) -> bool
+        requires steps_bound { steps_in self.now ≤ most_steps }
+        requires total_bound { at self.now (begin_at (steps_in self.now)) ≤ most_links }
+        ensures { result ≡ all_below 4096 (rest_ok self.now) }
+    {
+        let total = self.begin(self.steps());
+        (total..layout::MOST_LINKS).all(|i| self.link(i) == 0)
     }
-    true
-}
 
-// The links' places, then the links.
-pub fn graph_ok(buffer: &[u16]) -> bool
-    requires log_length_in_bounds { log_length ≤ length buffer.now }
-    requires buffer_bound { steps_in buffer.now ≤ most_steps }
-    ensures { result ≡ graph_ok buffer.now }
-{
-    if buffer[layout::BEGINS] != 0 {
-        return false;
+    // The links' places, then the links.
+    pub fn graph_ok(&self) -> bool
+        requires { steps_in self.now ≤ most_steps }
+        ensures { result ≡ graph_ok self.now }
+    {
+        self.begin(0) == 0
+            && self.all_begins()
+            && self.begin(self.steps()) <= layout::MOST_LINKS
+            && self.all_links()
+            && self.all_rest()
     }
-    if !all_begins(buffer) {
-        return false;
-    }
-    if link_total(buffer) > layout::MOST_LINKS {
-        return false;
-    }
-    if !all_links(buffer) {
-        return false;
-    }
-    all_rest(buffer)
 }

@@ -11,8 +11,7 @@ use lib.ListN.{length, take, drop}
 use Rattle.text.specs.Split.{split}
 use Rattle.text.specs.Lines.{TextLine, printable, whole}
 use Rattle.line_places.specs.Place.{place_at, unprintable_place, broken_at, ranked_at, line_at, found_line}
-use Rattle.line_places.specs.declared.LineFound.{LineFound}
-use Rattle.line_places.specs.declared.LineFound.TheVariants.{Whole, Broken}
+use Rattle.std.specs.Prelude.{Result, Ok, Err}
 use Rattle.line_places.proofs.PlaceLaws.{place_most}
 use Rattle.line_places.proofs.LineLaws.{unprintable_most, ranked_broken, ranked_whole, whole_ordered, whole_inside}
 use Rattle.log_line.specs.Header.{Columns}
@@ -72,21 +71,30 @@ pub byte_early : (text : List ℕ) (number n : ℕ) → number < 21 → 0 ≡ lo
 unfolding log_byte
 byte_early text number n h = sym (simp (lt-ltb number 21 h))
 
-module _ (text : List ℕ) (number n : ℕ) (late : 21 ≤ number) (r : LineFound) (given : r ≡ found_line 240 text n) where
-  pub byte_broken : (p : ℕ) → r ≡ Broken p → p ≡ log_byte text number n
+module _ (text : List ℕ) (n : ℕ) (r : Result (ℕ × ℕ) ℕ) (given : r ≡ found_line 240 text n) where
+  pub broken_fits : (p : ℕ) → r ≡ Err p → p < 2 ^ 16
+  broken_fits p q =
+      let e = ranked_broken 240 text n r given p 0 q in
+      let h = ranked_most 240 (line_at text n) 0 (omega arith) in
+      omega arith
+
+  pub byte_broken : (number : ℕ) → 21 ≤ number → (p : ℕ) → r ≡ Err p → p ≡ log_byte text number n
   unfolding log_byte
-  byte_broken p q = ranked_broken 240 text n r given p (place_in text number n (line_at text n).bytes) q ∙ sym (simp (le-ltb number 21 late))
+  byte_broken number late p q = ranked_broken 240 text n r given p (place_in text number n (line_at text n).bytes) q ∙ sym (simp (le-ltb number 21 late))
 
-  pub broken_fits : (p : ℕ) → r ≡ Broken p → p < 2 ^ 16
-  broken_fits p q = let e = byte_broken p q in let h = byte_fits text number n in omega arith
-
-  module _ (x y : ℕ) (q : r ≡ Whole x y) (v : ℕ) (e : v ≡ place_in text number n (take (y - x) (drop x text))) where
-    pub byte_whole : v ≡ log_byte text number n
-    unfolding log_byte
-    byte_whole = ranked_whole 240 text n r given x y q (place_in text number n) v e ∙ sym (simp (le-ltb number 21 late))
+  module _ (x y : ℕ) (q : r ≡ Ok (x, y)) (number v : ℕ) (e : v ≡ place_in text number n (take (y - x) (drop x text))) where
+    ranked : v ≡ ranked_at 240 (line_at text n) (place_in text number n (line_at text n).bytes)
+    ranked = ranked_whole 240 text n r given x y q (place_in text number n) v e
 
     pub whole_fits : v < 2 ^ 16
-    whole_fits = let f = byte_whole in let h = byte_fits text number n in omega arith
+    whole_fits =
+        let f = ranked in
+        let h = ranked_most 240 (line_at text n) (place_in text number n (line_at text n).bytes) (in_most text number n (line_at text n).bytes) in
+        omega arith
+
+    pub byte_whole : 21 ≤ number → v ≡ log_byte text number n
+    unfolding log_byte
+    byte_whole late = ranked ∙ sym (simp (le-ltb number 21 late))
 
 pub ruleset byte_kit = (byte_early, byte_broken, broken_fits, byte_whole, whole_fits, whole_ordered, whole_inside)
 

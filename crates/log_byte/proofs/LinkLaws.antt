@@ -139,9 +139,14 @@ module _ (text : List ℕ) (all at m v links : ℕ) (inv : all ≡ links + links
     pub after_in : at + n + 1 ≤ length text + 1
     after_in = next_in 10 text at n (omega arith) given
 
-    module _ (p : ℕ) (column : p ≡ (columns_named text).preds) (k : ℕ) (counted : k ≡ length (list_of (get_or (split 32 (take (at + n - at) (drop at text))) p []))) where
+    module _ (p : ℕ) (column : p ≡ (columns_named text).preds) (bs : List ℕ) (is_line : bs ≡ take (at + n - at) (drop at text))
+        (f : List ℕ) (is_field : f ≡ get_or (split 32 bs) p []) (k : ℕ) (lists : k ≡ length (list_of f)) where
+      counted : k ≡ length (list_of (get_or (split 32 (take (at + n - at) (drop at text))) p []))
+      counted = lists ∙ ap (λ (g : List ℕ). length (list_of g)) (is_field ∙ ap (λ (b : List ℕ). get_or (split 32 b) p []) is_line)
+
       few : k ≤ n + 1
       few =
+          let q = counted in
           let z : at + n - at ≡ n = omega arith in
           let i = part_in 10 text at n (omega arith) given in
           let d = length-drop at text in

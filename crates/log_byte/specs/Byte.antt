@@ -1,6 +1,6 @@
 -- The byte of a refused log text (Ask 2): where in the line at fault, by the refusal's number and line. Which refusal it is, and in which line,
 -- `log_text` says.
-use Rattle.std.specs.Prelude.{ℕ, ◌-◌, cond, List, map, eqb, ltb, take, drop}
+use Rattle.std.specs.Prelude.{ℕ, cond, List, map, eqb, ltb, take, drop}
 use Rattle.text.specs.Split.{split}
 use Rattle.line_places.specs.Place.{place_at, lines_bytes, line_at, ranked_at}
 use Rattle.layout.specs.Layout.{most_line}

@@ -8,7 +8,7 @@ use Rattle.lists.specs.Leftmost.{leftmost_from}
 use Rattle.text.specs.Split.{split, joined}
 use Rattle.text.specs.Lines.{as_lines, printable}
 use Rattle.text.specs.Walk.{faulty, walk}
-use Rattle.fields.specs.Fields.{part_start, same_bytes}
+use Rattle.fields.specs.Fields.{part_start}
 use Rattle.numbers.specs.Numbers.{digits, value_from, decimal}
 use Rattle.numbers.specs.Listed.{are_numbers}
 use Rattle.line_places.specs.Place.{place_at, unprintable_place, ranked_at, lines_bytes}
@@ -105,12 +105,12 @@ pub cases_count : length cases ≡ 42
 cases_count = refl
 
 pub cases_refused : map (λ (c : Case). log_text 3 c.text) cases ≡ map (λ (c : Case). faulty c.number c.line) cases
-unfolding split joined same_bytes as_lines printable digits value_from decimal walk place_of are_numbers rising_below link_count
+unfolding split joined as_lines printable digits value_from decimal walk place_of are_numbers rising_below link_count
 cases_refused = refl
 
 -- and at this byte.
 pub bytes : map (λ (c : Case). log_byte c.text c.number c.line) cases ≡ map (λ (c : Case). c.byte) cases
-unfolding split joined same_bytes as_lines printable digits value_from decimal place_of are_numbers link_count leftmost_from part_start place_at unprintable_place ranked_at lines_bytes wrong_name wrong_field over_limit_at columns_named steps_before place_in log_byte
+unfolding split joined as_lines printable digits value_from decimal place_of are_numbers link_count leftmost_from part_start place_at unprintable_place ranked_at lines_bytes wrong_name wrong_field over_limit_at columns_named steps_before place_in log_byte
 bytes = refl
 
 -- A line by its fields, under these columns, as that of step v after so many links; and the byte of 26.
@@ -154,5 +154,5 @@ pub lines_count : length lines ≡ 8
 lines_count = refl
 
 pub limits : map (λ (l : Line). limit_at l.before l.columns l.step l.fields) lines ≡ map (λ (l : Line). l.byte) lines
-unfolding split same_bytes decimal digits value_from leftmost_from part_start place_at over_limit_at
+unfolding split decimal digits value_from leftmost_from part_start place_at over_limit_at
 limits = refl

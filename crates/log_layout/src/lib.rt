@@ -5,30 +5,32 @@ mod lines;
 
 ghost use Rattle.std.specs.Prelude.{◌≤◌};
 ghost use Rattle.log_texts.specs.Spelled.{steps_of, step_lines, text_of};
-ghost use Rattle.writing.specs.Put.{Put};
+ghost use Rattle.writing.specs.Put.{Put, Adds};
 ghost use Rattle.log_layout.specs.Tested.{Tested};
 
 use lines::{put_header, put_step};
+use writing::Output;
 
 // The lines of all steps.
-fn put_steps(out: &mut [u8], at: usize, log: &[u16]) -> usize
+#[tactic(auto, using(crate::proofs::TextLaws::steps_kit))]
+fn put_steps(output: &mut Output, log: &[u16])
     requires tested { Tested log.now }
-    requires at_bound { at ≤ 26 }
-    ensures { Put (step_lines 0 (steps_of log.now)) at out.old result out.new }
+    requires at_bound { output.old.at ≤ 26 }
+    ensures { Adds (step_lines 0 (steps_of log.now)) output.old output.new }
 {
-    let steps = log[0];
-    let mut next = at;
-    for step in 0..steps {
-        next = put_step(out, next, step, log);
+    for step in 0..log[0] {
+        put_step(output, step, log);
     }
-    next
 }
 
 // The whole text, at the front of a buffer. Answers how long it is.
+#[tactic(auto, using(crate::proofs::TextLaws::text_kit))]
 pub fn lay_log(out: &mut [u8], log: &[u16]) -> usize
     requires { Tested log.now }
     ensures { Put (text_of log.now) 0 out.old result out.new }
 {
-    let next = put_header(out, 0);
-    put_steps(out, next, log)
+    let mut output = Output::new(out);
+    put_header(&mut output);
+    put_steps(&mut output, log);
+    output.at
 }

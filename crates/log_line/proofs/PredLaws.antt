@@ -6,7 +6,7 @@ use mathlib.Core.List.{List, [], ◌∷◌, ◌++◌, map, append-nil, append_as
 use Prim.Native.Nat.{ℕ, ◌+◌, ◌-◌, ◌*◌, ◌^◌, ◌≤◌, ◌<◌}
 use native.Mathlib.Omega.{arith}
 use native.Mathlib.Numerals.{add-one}
-use borrow.Author.Tests.{le-leb, lt-leb, lt-ltb, le-ltb, eq-eqb, ne_eqb, ltb-true, ltb-false}
+use borrow.Author.Tests.{le-leb, lt-leb, lt-ltb, eq-eqb, ne_eqb, ltb-true, ltb-false}
 use lib.Dec.{leb, ltb, eqb}
 use lib.ListN.{length, take, drop, set, length-map, length-append}
 use lib.Seq.{take-suc-set, length-take-le, set_out}
@@ -15,14 +15,12 @@ use Rattle.text.specs.Split.{split, first_part}
 use Rattle.text.proofs.SplitLaws.{first_is}
 use Rattle.lists.proofs.Parts.{rest_part}
 use Rattle.numbers.specs.Numbers.{is_number, value_of, first_read}
-use Rattle.numbers.specs.declared.NumberRead.{NumberRead}
-use Rattle.numbers.specs.declared.NumberRead.TheVariants.{Ended, Stopped}
+use Rattle.std.specs.Prelude.{Option, Some, None, is_some, Result, Ok, Err}
 use Rattle.fields.proofs.FieldLaws.{count_some}
-use Rattle.numbers.specs.Listed.{is_none, list_of, are_numbers}
+use Rattle.numbers.specs.Listed.{is_none, is_list, list_of, are_numbers}
 use Rattle.log_line.specs.Step.{rising_below, mislinked}
-use Rattle.log_line.specs.Scan.{Scanned, scan_end}
-use Rattle.log_line.specs.declared.preds.PredScan.{PredScan}
-use Rattle.fields.proofs.PartLaws.{parts_from, parts_all, parts_none, parts_step, part_in, part_fits, next_fits, next_in, rest_falls}
+use Rattle.log_line.specs.Scan.{Formed, next_least}
+use Rattle.fields.proofs.PartLaws.{parts_from, parts_all, parts_none, parts_step, part_fits, next_fits, next_in, rest_falls}
 use Rattle.numbers.proofs.ValueLaws.{stopped_none, ended_number, ended_value, ended_stop}
 
 -- ---- every part a number
@@ -41,16 +39,16 @@ lent_part l at n given =
     first_is 44 (lent l at) ∙ ap (λ (k : ℕ). take k (lent l at)) (sym given) ∙ ap (take n) (rest_part l at) ∙ ap (λ (k : ℕ). take k (drop at l)) (sym e)
 
 module _ (l : List ℕ) (at : ℕ) (inv : are_numbers (split 44 l) ≡ are_numbers (parts_from 44 l at)) (inside : at ≤ length l)
-    (r : NumberRead) (said : r ≡ first_read 44 (take (length l - at) (drop at l))) where
+    (r : Result (ℕ × ℕ) ℕ) (said : r ≡ first_read 44 (take (length l - at) (drop at l))) where
   here : (n : ℕ) → n ≡ length (first_part 44 (lent l at)) → are_numbers (split 44 l) ≡ (is_number (first_part 44 (lent l at)) && are_numbers (parts_from 44 l (at + n + 1)))
   here n given =
       inv ∙ ap are_numbers (parts_step 44 l at n inside given) ∙ are_numbers_first _ _
       ∙ ap (λ (f : List ℕ). is_number f && are_numbers (parts_from 44 l (at + n + 1))) (sym (lent_part l at n given))
 
-  pub numbers_bad : (stop : ℕ) → r ≡ Stopped stop → false ≡ are_numbers (split 44 l)
+  pub numbers_bad : (stop : ℕ) → r ≡ Err stop → false ≡ are_numbers (split 44 l)
   numbers_bad stop p = sym (here (length (first_part 44 (lent l at))) refl ∙ rw (← stopped_none 44 (lent l at) r said stop p))
 
-  pub numbers_more : (v n : ℕ) → r ≡ Ended v n → are_numbers (split 44 l) ≡ are_numbers (parts_from 44 l (at + n + 1))
+  pub numbers_more : (v n : ℕ) → r ≡ Ok (v, n) → are_numbers (split 44 l) ≡ are_numbers (parts_from 44 l (at + n + 1))
   numbers_more v n p = here n (ended_stop 44 (lent l at) r said v n p) ∙ rw (← ended_number 44 (lent l at) r said v n p)
 
 -- ---- rising, and below v
@@ -90,21 +88,26 @@ unfolding rising_below rising_from
 rising_is v [] = refl
 rising_is v (u ∷ us) = sym (rising_cons v 0 u us ∙ rw (le-leb 0 u (omega arith)))
 
-rising_nil : (v low : ℕ) → rising_from v low [] ≡ true
-unfolding rising_from
-rising_nil v low = refl
+-- After some numbers that the others must be at least so much.
+pub rising_after : ℕ → Option ℕ → List ℕ → Bool
+rising_after v None us = false
+rising_after v (Some low) us = rising_from v low us
 
-rising_low : (v low u : ℕ) (us : List ℕ) → u < low → rising_from v low (u ∷ us) ≡ false
-unfolding rising_from
-rising_low v low u us h = simp (lt-leb low u h)
+rising_next : (v : ℕ) (least : Option ℕ) (u : ℕ) (us : List ℕ) → rising_after v least (u ∷ us) ≡ rising_after v (next_least v least u) us
+unfolding rising_after next_least rising_from
+rising_next v None u us = refl
+rising_next v (Some low) u us = go (leb low u) refl (ltb u v) refl
+  where
+    go : (s : Bool) → leb low u ≡ s → (t : Bool) → ltb u v ≡ t
+        → (leb low u && (ltb u v && rising_from v (u + 1) us)) ≡ rising_after v (cond (leb low u && ltb u v) (Some (u + 1)) None) us
+    go true p true q = rw (p, q) refl
+    go true p false q = rw (p, q) refl
+    go false p t q = rw p refl
 
-rising_high : (v low u : ℕ) (us : List ℕ) → low ≤ u → v ≤ u → rising_from v low (u ∷ us) ≡ false
-unfolding rising_from
-rising_high v low u us h k = simp (le-leb low u h, le-ltb u v k)
-
-rising_step : (v low u : ℕ) (us : List ℕ) → low ≤ u → u < v → rising_from v low (u ∷ us) ≡ rising_from v (u + 1) us
-unfolding rising_from
-rising_step v low u us h k = simp (le-leb low u h, lt-ltb u v k)
+rising_end : (v : ℕ) (least : Option ℕ) → rising_after v least [] ≡ is_some least
+unfolding rising_after rising_from
+rising_end v None = refl
+rising_end v (Some low) = refl
 
 abbrev pub numbers : List ℕ → List ℕ
 numbers l = map value_of (split 44 l)
@@ -121,7 +124,8 @@ module _ (l : List ℕ) (at : ℕ) where
       → numbers_from l at ≡ value_of (take (at + n - at) (drop at l)) ∷ numbers_from l (at + n + 1)
   numbers_step n inside given = ap (map value_of) (parts_step 44 l at n inside given)
 
-pub rising_start : (v : ℕ) (l : List ℕ) → rising_below v (map value_of (split 44 l)) ≡ rising_from v 0 (numbers_from l 0)
+pub rising_start : (v : ℕ) (l : List ℕ) → rising_below v (map value_of (split 44 l)) ≡ rising_after v (Some 0) (numbers_from l 0)
+unfolding rising_after
 rising_start v l = rising_is v (numbers l) ∙ ap (λ (ps : List (List ℕ)). rising_from v 0 (map value_of ps)) (parts_all 44 l)
 
 -- ---- stored
@@ -149,34 +153,35 @@ module _ (l : List ℕ) (at k : ℕ) (preds : List ℕ) (inv : map value_of (spl
         ∙ ap (λ (ps : List ℕ). ps ++ numbers_from l (at + n + 1))
         (sym (ap (λ (m : ℕ). take m (set preds k u)) (add-one k) ∙ take-suc-set preds k u (omega arith)))
 
+twice : (b : Bool) → b ≡ not (not b)
+twice true = refl
+twice false = refl
+
 -- ---- one pass
 
--- The parts before the place are read: k numbers, the last below `low`, rising so far or not.
-pub record Scanning (v : ℕ) (l : List ℕ) (at k low : ℕ) (rising : Bool) (preds : List ℕ) : Type 0 where
+-- The parts before the place are read: k numbers, after which the next must be at least so much.
+pub record Scanning (v : ℕ) (l : List ℕ) (at k : ℕ) (least : Option ℕ) (first : List ℕ) : Type 0 where
   pub numbered : are_numbers (split 44 l) ≡ are_numbers (parts_from 44 l at)
-  pub rises : rising_below v (map value_of (split 44 l)) ≡ (rising && rising_from v low (numbers_from l at))
+  pub rises : rising_below v (map value_of (split 44 l)) ≡ rising_after v least (numbers_from l at)
   pub counts : length (split 44 l) ≡ k + length (parts_from 44 l at)
-  pub kept : length (split 44 l) ≤ 8 → map value_of (split 44 l) ≡ take k preds ++ numbers_from l at
+  pub kept : length (split 44 l) ≤ 8 → map value_of (split 44 l) ≡ take k first ++ numbers_from l at
 
-pub scan_start : (v : ℕ) (l preds : List ℕ) → Scanning v l 0 0 0 true preds
-scan_start v l preds = record {
+pub scan_start : (v : ℕ) (l first : List ℕ) → Scanning v l 0 0 (Some 0) first
+scan_start v l first = record {
   numbered = numbers_start l;
   rises = rising_start v l;
   counts = let e = ap length (parts_all 44 l) in omega arith;
-  kept = λ few. stored_start l preds;
+  kept = λ few. stored_start l first;
 }
 
-module _ (v : ℕ) (l : List ℕ) (at k low : ℕ) (rising : Bool) (preds : List ℕ) (s : Scanning v l at k low rising preds) where
-  module _ (inside : at ≤ length l) (r : NumberRead) (said : r ≡ first_read 44 (take (length l - at) (drop at l))) where
-    pub scan_bad : (stop : ℕ) → r ≡ Stopped stop → false ≡ are_numbers (split 44 l)
-    scan_bad stop p = numbers_bad l at s.numbered inside r said stop p
+module _ (v : ℕ) (l : List ℕ) (at k : ℕ) (least : Option ℕ) (first : List ℕ) (s : Scanning v l at k least first) where
+  module _ (inside : at ≤ length l) (r : Result (ℕ × ℕ) ℕ) (said : r ≡ first_read 44 (take (length l - at) (drop at l))) where
+    pub scan_bad : is_none l ≡ false → (stop : ℕ) → r ≡ Err stop → is_list l ≡ false
+    scan_bad some stop p = rw some (sym (numbers_bad l at s.numbered inside r said stop p))
 
-    module _ (u n : ℕ) (p : r ≡ Ended u n) where
+    module _ (u n : ℕ) (is_read : r ≡ Ok (u, n)) where
       given : n ≡ length (first_part 44 (take (length l - at) (drop at l)))
-      given = ended_stop 44 (lent l at) r said u n p
-
-      pub part_ends : at + n ≤ length l
-      part_ends = part_in 44 l at n inside given
+      given = ended_stop 44 (lent l at) r said u n is_read
 
       pub place_fits : length l < 2 ^ 64 → at + n < 2 ^ 64
       place_fits h = part_fits 44 l at n inside given h
@@ -190,119 +195,84 @@ module _ (v : ℕ) (l : List ℕ) (at k low : ℕ) (rising : Bool) (preds : List
       pub place_falls : length l + 1 - (at + n + 1) < length l + 1 - at
       place_falls = rest_falls 44 l at n inside given
 
-    module _ (u n : ℕ) (p : r ≡ Ended u n) (size : length preds ≡ 8) (new : List ℕ) (put : new ≡ set preds k u) where
-      is_part : n ≡ length (first_part 44 (take (length l - at) (drop at l)))
-      is_part = given u n p
+      module _ (size : length first ≡ 8) (new : List ℕ) (put : new ≡ set first k u) where
+        value : u ≡ value_of (take (at + n - at) (drop at l))
+        value = ended_value 44 (lent l at) r said u n is_read ∙ ap value_of (lent_part l at n given)
 
-      value : u ≡ value_of (take (at + n - at) (drop at l))
-      value = ended_value 44 (lent l at) r said u n p ∙ ap value_of (lent_part l at n is_part)
+        more : length (split 44 l) ≡ k + 1 + length (parts_from 44 l (at + n + 1))
+        more = let c = s.counts in let e = ap length (parts_step 44 l at n inside given) in omega arith
 
-      more : length (split 44 l) ≡ k + 1 + length (parts_from 44 l (at + n + 1))
-      more = let c = s.counts in let e = ap length (parts_step 44 l at n inside is_part) in omega arith
+        there_stored : length (split 44 l) ≤ 8 → map value_of (split 44 l) ≡ take (k + 1) new ++ numbers_from l (at + n + 1)
+        there_stored few =
+            let m = more in
+            rw put (stored_more l at k first (s.kept few) size few (omega arith) n inside given u value)
 
-      there_stored : length (split 44 l) ≤ 8 → map value_of (split 44 l) ≡ take (k + 1) new ++ numbers_from l (at + n + 1)
-      there_stored few =
-          let m = more in
-          rw put (stored_more l at k preds (s.kept few) size few (omega arith) n inside is_part u value)
-
-      rises_here : rising_below v (map value_of (split 44 l)) ≡ (rising && rising_from v low (u ∷ numbers_from l (at + n + 1)))
-      rises_here = s.rises ∙ ap (λ (us : List ℕ). rising && rising_from v low us) (numbers_step l at n inside is_part ∙ ap (λ (x : ℕ). x ∷ numbers_from l (at + n + 1)) (sym value))
-
-      pub scan_low : u < low → Scanning v l (at + n + 1) (k + 1) low false new
-      scan_low h = record {
-        numbered = numbers_more l at s.numbered inside r said u n p;
-        rises = rises_here ∙ ap (λ (t : Bool). rising && t) (rising_low v low u _ h) ∙ and-false rising;
-        counts = more;
-        kept = there_stored;
-      }
-
-      pub scan_high : low ≤ u → v ≤ u → Scanning v l (at + n + 1) (k + 1) low false new
-      scan_high h j = record {
-        numbered = numbers_more l at s.numbered inside r said u n p;
-        rises = rises_here ∙ ap (λ (t : Bool). rising && t) (rising_high v low u _ h j) ∙ and-false rising;
-        counts = more;
-        kept = there_stored;
-      }
-
-      pub scan_next : low ≤ u → u < v → Scanning v l (at + n + 1) (k + 1) (u + 1) rising new
-      scan_next h j = record {
-        numbered = numbers_more l at s.numbered inside r said u n p;
-        rises = rises_here ∙ ap (λ (t : Bool). rising && t) (rising_step v low u _ h j);
-        counts = more;
-        kept = there_stored;
-      }
+        pub scan_next : (next : Option ℕ) → next ≡ next_least v least u → Scanning v l (at + n + 1) (k + 1) next new
+        scan_next next e = record {
+          numbered = numbers_more l at s.numbered inside r said u n is_read;
+          rises =
+              s.rises ∙ ap (rising_after v least) (numbers_step l at n inside given ∙ ap (λ (x : ℕ). x ∷ numbers_from l (at + n + 1)) (sym value))
+              ∙ rising_next v least u _ ∙ ap (λ (m : Option ℕ). rising_after v m (numbers_from l (at + n + 1))) (sym e);
+          counts = more;
+          kept = there_stored;
+        }
 
   module _ (past : length l < at) where
     all_numbers : are_numbers (split 44 l) ≡ true
     all_numbers = s.numbered ∙ ap are_numbers (parts_none 44 l at past) ∙ are_numbers_none
 
-    rising_is_so : rising ≡ rising_below v (map value_of (split 44 l))
-    rising_is_so = sym (s.rises ∙ ap (λ (us : List ℕ). rising && rising_from v low us) (numbers_none l at past) ∙ ap (λ (t : Bool). rising && t) (rising_nil v low) ∙ and-true rising)
+    rising_is_so : is_some least ≡ rising_below v (map value_of (split 44 l))
+    rising_is_so = sym (s.rises ∙ ap (rising_after v least) (numbers_none l at past) ∙ rising_end v least)
 
     counted_is : k ≡ length (split 44 l)
     counted_is = let c = s.counts in let e = ap length (parts_none 44 l at past) in omega arith
 
-    pub scan_end_lem : is_none l ≡ false → length preds ≡ 8 → (r : PredScan) → r ≡ scan_end v rising k → Scanned v l r preds
-    scan_end_lem some size r e = rw e (record {
-      size = size;
-      formed = sym (rw some all_numbers);
-      linked = λ z. linked_is;
-      counted = λ z. counted_is ∙ sym many;
-      stored = λ z few. are ∙ s.kept (let m = many in omega arith) ∙ ap (λ (us : List ℕ). take k preds ++ us) (numbers_none l at past) ∙ append-nil (take k preds) ∙ ap (λ (m : ℕ). take m preds) (counted_is ∙ sym many);
-    })
-      where
-        are : list_of l ≡ map value_of (split 44 l)
-        are = rw some
+    module _ (some : is_none l ≡ false) (size : length first ≡ 8) where
+      are : list_of l ≡ map value_of (split 44 l)
+      are = rw some
 
-        many : length (list_of l) ≡ length (split 44 l)
-        many = ap length are ∙ length-map (split 44 l) value_of
+      many : length (list_of l) ≡ length (split 44 l)
+      many = ap length are ∙ length-map (split 44 l) value_of
 
-        counted : eqb (length (list_of l)) 0 ≡ false
-        counted = ne_eqb (length (list_of l)) 0 (λ (z : length (list_of l) ≡ 0). let m = many in let h = count_some 44 l in omega arith)
+      counted : eqb (length (list_of l)) 0 ≡ false
+      counted = ne_eqb (length (list_of l)) 0 (λ (z : length (list_of l) ≡ 0). let m = many in let h = count_some 44 l in omega arith)
 
-        linked_is : cond (eqb v 0) true (not rising) ≡ mislinked v (list_of l)
-        linked_is = go (eqb v 0) refl
-          where
-            go : (t : Bool) → eqb v 0 ≡ t → cond t true (not rising) ≡ cond t (not (eqb (length (list_of l)) 0)) (eqb (length (list_of l)) 0 || not (rising_below v (list_of l)))
-            go true q = sym (rw counted)
-            go false q = sym (rw counted (ap (λ (us : List ℕ). not (rising_below v us)) are ∙ ap not (sym rising_is_so)))
+      linked_is : (t : Bool) → t ≡ (eqb v 0 || not (is_some least)) → t ≡ mislinked v (list_of l)
+      linked_is t e = e ∙ go (eqb v 0) refl
+        where
+          go : (t : Bool) → eqb v 0 ≡ t → (t || not (is_some least)) ≡ cond t (not (eqb (length (list_of l)) 0)) (eqb (length (list_of l)) 0 || not (rising_below v (list_of l)))
+          go true q = sym (rw counted)
+          go false q = sym (rw counted (ap (λ (us : List ℕ). not (rising_below v us)) are ∙ ap not (sym rising_is_so)))
 
-pub scan_malformed : (v : ℕ) (l preds : List ℕ) → is_none l ≡ false → length preds ≡ 8 → false ≡ are_numbers (split 44 l)
-    → Scanned v l (record { formed = false; mislinked = false; count = 0 }) preds
-scan_malformed v l preds some size e = record {
-  size = size;
-  formed = rw some e;
-  linked = λ z. let y : ◌≡◌ {A = ℕ} 0 1 = cc in absurd (omega arith);
-  counted = λ z. let y : ◌≡◌ {A = ℕ} 0 1 = cc in absurd (omega arith);
-  stored = λ z few. let y : ◌≡◌ {A = ℕ} 0 1 = cc in absurd (omega arith);
-}
+      ended : (t : Bool) → t ≡ (eqb v 0 || not (is_some least)) → Formed v l (record { mislinked = t; links = record { count = k; first = first } })
+      ended t e = record {
+        formed = rw some all_numbers;
+        linked = linked_is t e;
+        links = record {
+          size = size;
+          counted = counted_is ∙ sym many;
+          stored = λ few. are ∙ s.kept (let m = many in omega arith) ∙ ap (λ (us : List ℕ). take k first ++ us) (numbers_none l at past) ∙ append-nil (take k first) ∙ ap (λ (m : ℕ). take m first) (counted_is ∙ sym many);
+        };
+      }
 
-pub ruleset scanning_kit = (
-  scan_start,
-  scan_bad,
-  place_fits,
-  place_next_fits,
-  place_in,
-  place_falls,
-  scan_low,
-  scan_high,
-  scan_next,
-  scan_end_lem,
-  scan_malformed,
-)
+      pub ended_start : v ≡ 0 → Formed v l (record { mislinked = eqb v 0; links = record { count = k; first = first } })
+      ended_start z = ended (eqb v 0) (rw (eq-eqb v 0 z) refl)
+
+      pub ended_later : (v ≡ 0 → ⊥) → (t : Bool) → is_some least ≡ not t → Formed v l (record { mislinked = t; links = record { count = k; first = first } })
+      ended_later z t e = ended t (twice t ∙ ap not (sym e) ∙ sym (rw (ne_eqb v 0 z) refl))
+
+pub ruleset scanning_kit = (scan_start, scan_bad, place_fits, place_next_fits, place_in, place_falls, scan_next, ended_start, ended_later)
 
 -- ---- `-`
 
-module _ (v : ℕ) (f preds : List ℕ) (size : length preds ≡ 8) (t : Bool) (given : t ≡ is_none f) where
-  pub none_scanned : t ≡ true → (w : Bool) → w ≡ not (eqb v 0) → Scanned v f (record { formed = true; mislinked = w; count = 0 }) preds
+module _ (v : ℕ) (f first : List ℕ) (size : length first ≡ 8) (t : Bool) (given : t ≡ is_none f) where
+  pub none_scanned : t ≡ true → (w : Bool) → w ≡ not (eqb v 0) → Formed v f (record { mislinked = w; links = record { count = 0; first = first } })
   none_scanned e w q =
       let none : is_none f ≡ true = sym given ∙ e in
       record {
-        size = size;
-        formed = sym (rw none);
-        linked = λ z. q ∙ go (eqb v 0) none;
-        counted = λ z. sym (rw none);
-        stored = λ z few. rw none;
+        formed = rw none;
+        linked = q ∙ go (eqb v 0) none;
+        links = record { size = size; counted = sym (rw none); stored = λ few. rw none };
       }
     where
       go : (s : Bool) → is_none f ≡ true → not s ≡ cond s (not (eqb (length (list_of f)) 0)) (eqb (length (list_of f)) 0 || not (rising_below v (list_of f)))
@@ -316,18 +286,4 @@ pub ruleset field_kit = (none_scanned, some_scanned)
 
 -- ---- a link that is kept
 
-pub kept_out : (l : List ℕ) (k u : ℕ) → length l ≡ 8 → 8 ≤ k → l ≡ set l k u
-kept_out l k u e h = sym (set_out l k u (omega arith))
-
-pub ruleset keep_kit = (kept_out)
-
--- ---- the end
-
-module _ (v : ℕ) (rising : Bool) (n : ℕ) where
-  pub ends_start : v ≡ 0 → record { formed = true; mislinked = true; count = n } ≡ scan_end v rising n
-  ends_start z = sym (rw (eq-eqb v 0 z))
-
-  pub ends_later : (v ≡ 0 → ⊥) → record { formed = true; mislinked = not rising; count = n } ≡ scan_end v rising n
-  ends_later z = sym (rw (ne_eqb v 0 z))
-
-pub ruleset end_kit = (ends_start, ends_later)
+pub ruleset keep_kit = (set_out)

@@ -1,15 +1,15 @@
 // The first line: the names of the four columns, in any order.
-ghost use Rattle.std.specs.Prelude.{◌≡◌};
+ghost use Rattle.std.specs.Prelude.{◌≡◌, ◌&&◌, ltb};
 ghost use Rattle.text.specs.Split.{split};
-ghost use Rattle.log_line.specs.Header.{place_of};
+ghost use Rattle.log_line.specs.Header.{place_of, columns_of};
 ghost use Rattle.log_line.specs.Format.{judge_header};
-ghost use Rattle.log_line.specs.Answers.{header_number, header_values, header_says};
+ghost use Rattle.log_line.specs.Answers.{order_of, header_says};
 
 use crate::refusals::Refusal;
-use fields::{field_count, first_length, same};
+use fields::Fields;
 
-// The place of each column among the fields, 0 to 3.
-#[derive(Clone, Copy)]
+// The place of each column among the fields.
+#[derive(Clone, Copy, PartialEq, Eq, Debug)]
 pub struct ColumnOrder {
     pub vertex: usize,
     pub board: usize,
@@ -17,56 +17,49 @@ pub struct ColumnOrder {
     pub preds: usize,
 }
 
-#[derive(Clone, Copy)]
-pub enum HeaderAnswer {
-    Columns(ColumnOrder),
-    Refused(Refusal),
+impl ColumnOrder {
+    // All four stand among four fields, so each stands once.
+    fn is_complete(&self) -> bool
+        ensures { result ≡ (ltb self.now.vertex 4 && (ltb self.now.board 4 && (ltb self.now.labels 4 && ltb self.now.preds 4))) }
+    {
+        self.vertex < 4 && self.board < 4 && self.labels < 4 && self.preds < 4
+    }
 }
 
 // The place of the first field that is this name; where none is, how many fields there are.
-pub fn place_of(line: &[u8], name: &[u8]) -> usize
-    ensures { result ≡ place_of name.now (split 32 line.now) }
+#[tactic(auto, using(crate::proofs::HeaderLaws::place_kit))]
+fn place_of<const N: usize>(fields: &Fields<N>, name: &[u8]) -> usize
+    ensures { result ≡ place_of name.now (split 32 fields.now.line.now) }
 {
-    let mut at = 0;
-    let mut i = 0;
-    while at <= line.len() {
-        let n = first_length(&line[at..], 32);
-        let e = at + n;
-        if same(&line[at..e], name) {
+    for i in 0..fields.len() {
+        if fields.field(i) == name {
             return i;
         }
-        at = e + 1;
-        i += 1;
     }
-    i
+    fields.len()
 }
 
-pub fn read_header(line: &[u8]) -> HeaderAnswer
-    ensures { header_says (header_number result) (header_values result) ≡ judge_header (split 32 line.now) }
+// Where the four names stand in the line, whatever else stands there.
+pub fn columns_of<const N: usize>(fields: &Fields<N>) -> ColumnOrder
+    ensures { order_of result ≡ columns_of (split 32 fields.now.line.now) }
 {
-    if field_count(line, 32) != 4 {
-        return HeaderAnswer::Refused(Refusal::Header);
+    ColumnOrder {
+        vertex: place_of(fields, b"vertex"),
+        board: place_of(fields, b"board"),
+        labels: place_of(fields, b"labels"),
+        preds: place_of(fields, b"preds"),
     }
-    let vertex = place_of(line, b"vertex");
-    if vertex >= 4 {
-        return HeaderAnswer::Refused(Refusal::Header);
+}
+
+// The columns of a line that names each of the four, and nothing else.
+pub fn read_header(line: &[u8]) -> Result<ColumnOrder, Refusal>
+    ensures { header_says result ≡ judge_header (split 32 line.now) }
+{
+    let fields = Fields::<8>::split(line);
+    let order = columns_of(&fields);
+    if fields.len() == 4 && order.is_complete() {
+        Ok(order)
+    } else {
+        Err(Refusal::Header)
     }
-    let board = place_of(line, b"board");
-    if board >= 4 {
-        return HeaderAnswer::Refused(Refusal::Header);
-    }
-    let labels = place_of(line, b"labels");
-    if labels >= 4 {
-        return HeaderAnswer::Refused(Refusal::Header);
-    }
-    let preds = place_of(line, b"preds");
-    if preds >= 4 {
-        return HeaderAnswer::Refused(Refusal::Header);
-    }
-    HeaderAnswer::Columns(ColumnOrder {
-        vertex,
-        board,
-        labels,
-        preds,
-    })
 }

@@ -1,100 +1,100 @@
 // The field `preds`: `-`, or numbers joined by commas. A line of 240 bytes can list over a hundred.
-ghost use Rattle.std.specs.Prelude.{◌≡◌, false, length, set};
+ghost use Rattle.std.specs.Prelude.{◌≡◌, ◌≤◌, false, length, set, take};
 ghost use Rattle.numbers.specs.Listed.{is_none};
-ghost use Rattle.log_line.specs.Scan.{Scanned, scan_end};
+ghost use Rattle.log_line.specs.Scan.{Scanned, next_least};
 
-use fields::same;
-use numbers::{NumberRead, read_number};
+use numbers::read_number;
 
-// What the field comes to for a step: is it `-` or numbers joined by commas? If so, are the links wrong (24), and how many are there?
+// The links of a line: how many they are, and the first 8.
 #[derive(Clone, Copy)]
-pub struct PredScan {
-    pub formed: bool,
-    pub mislinked: bool,
+pub struct Links {
     pub count: usize,
+    pub first: [u16; 8],
+}
+
+impl Links {
+    // All of them, where they are at most 8.
+    pub fn as_slice(&self) -> &[u16]
+        requires { (self.now.count ≤ 8) × (length self.now.first ≡ 8) }
+        ensures { result.now ≡ take self.now.count self.now.first }
+    {
+        &self.first[..self.count]
+    }
+}
+
+// What the field comes to for a step, where it is `-` or numbers joined by commas: are the links wrong (24), and which are they?
+#[derive(Clone, Copy)]
+pub struct Preds {
+    pub mislinked: bool,
+    pub links: Links,
 }
 
 // `-`
 pub fn is_none(field: &[u8]) -> bool
     ensures { result ≡ is_none field.now }
 {
-    same(field, b"-")
+    field == b"-".as_slice()
 }
 
-// Puts the number at its place, if that is one of the 8.
-fn keep(preds: &mut [u16; 8], k: usize, u: u16)
-    requires { length preds.old ≡ 8 }
-    ensures { (length preds.new ≡ 8) × (preds.new ≡ set preds.old k u) }
+// Puts the number at its place, if that is one of the 8. By `get_mut` the proof does not close: what stands there afterwards is not found.
+#[tactic(auto, using(crate::proofs::PredLaws::keep_kit))]
+fn keep(first: &mut [u16; 8], k: usize, u: u16)
+    ensures { first.new ≡ set first.old k u }
 {
     if k < layout::MOST_PREDS {
-        preds[k] = u;
+        first[k] = u;
     }
 }
 
-// The numbers of the field for step v, in one pass that goes on where reading a number stopped. The first 8 are stored.
-fn scan_numbers(field: &[u8], v: u16, preds: &mut [u16; 8]) -> PredScan
-    requires { (is_none field.now ≡ false) × (length preds.old ≡ 8) }
-    ensures { Scanned v field.now result preds.new }
+// What the number after u must be at least, so that all rise below v; none, once they do not.
+#[tactic(auto, unfolding(crate::specs::Scan::next_least))]
+fn next_least(least: Option<u16>, u: u16, v: u16) -> Option<u16>
+    ensures { result ≡ next_least v least u }
 {
+    match least {
+        Some(low) if low <= u && u < v => Some(u + 1),
+        _ => None,
+    }
+}
+
+// The numbers of the field for step v, in one pass that goes on where reading a number stopped.
+#[tactic(auto, using(crate::proofs::PredLaws::scanning_kit))]
+fn scan_numbers(field: &[u8], v: u16) -> Option<Preds>
+    requires { is_none field.now ≡ false }
+    ensures { Scanned v field.now result }
+{
+    let mut first = [0u16; 8];
     let mut at = 0;
-    let mut k = 0;
-    let mut low: u16 = 0;
-    let mut rising = true;
+    let mut count = 0;
+    let mut least = Some(0u16);
     while at <= field.len() {
-        match read_number(&field[at..], 44) {
-            NumberRead::Stopped(_) => {
-                return PredScan {
-                    formed: false,
-                    mislinked: false,
-                    count: 0,
-                };
-            }
-            NumberRead::Ended(u, n) => {
-                keep(preds, k, u);
-                at = at + n + 1;
-                k += 1;
-                if u < low {
-                    rising = false;
-                } else if u >= v {
-                    rising = false;
-                } else {
-                    low = u + 1;
-                }
-            }
-        }
-    }
-    finish(v, rising, k)
-}
-
-// The field of so many numbers, rising below v or not. Step 0 has no links.
-fn finish(v: u16, rising: bool, count: usize) -> PredScan
-    ensures { result ≡ scan_end v rising count }
-{
-    if v == 0 {
-        return PredScan {
-            formed: true,
-            mislinked: true,
-            count,
+        let Ok((u, n)) = read_number(&field[at..], b',') else {
+            return None;
         };
+        keep(&mut first, count, u);
+        at = at + n + 1;
+        count += 1;
+        least = next_least(least, u, v);
     }
-    PredScan {
-        formed: true,
-        mislinked: !rising,
-        count,
-    }
+    Some(Preds {
+        mislinked: v == 0 || least.is_none(),
+        links: Links { count, first },
+    })
 }
 
-// The field for step v. The first 8 numbers are stored.
-pub fn scan_preds(field: &[u8], v: u16, preds: &mut [u16; 8]) -> PredScan
-    requires { length preds.old ≡ 8 }
-    ensures { Scanned v field.now result preds.new }
+// The field for step v, if it is `-` or numbers joined by commas.
+#[tactic(auto, using(crate::proofs::PredLaws::field_kit))]
+pub fn scan_preds(field: &[u8], v: u16) -> Option<Preds>
+    ensures { Scanned v field.now result }
 {
     if is_none(field) {
-        return PredScan {
-            formed: true,
+        return Some(Preds {
             mislinked: v != 0,
-            count: 0,
-        };
+            links: Links {
+                count: 0,
+                first: [0; 8],
+            },
+        });
     }
-    scan_numbers(field, v, preds)
+    scan_numbers(field, v)
 }

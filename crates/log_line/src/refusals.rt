@@ -3,7 +3,7 @@ ghost use Rattle.std.specs.Prelude.{◌≡◌};
 ghost use Rattle.log_line.specs.Answers.{refusal_number};
 
 // Document 01's 20 to 26, in this order.
-#[derive(Clone, Copy)]
+#[derive(Clone, Copy, PartialEq, Eq, Debug)]
 pub enum Refusal {
     // Text empty or too large.
     Size,
@@ -21,16 +21,25 @@ pub enum Refusal {
     Limit,
 }
 
-pub fn number_of(refusal: Refusal) -> u16
-    ensures { result ≡ refusal_number refusal }
-{
-    match refusal {
-        Refusal::Size => 20,
-        Refusal::Malformed => 21,
-        Refusal::Header => 22,
-        Refusal::Number => 23,
-        Refusal::Links => 24,
-        Refusal::Labels => 25,
-        Refusal::Limit => 26,
+impl From<Refusal> for u16 {
+    ghost from_gives = { λ refusal number. number ≡ refusal_number refusal };
+
+    fn from(refusal: Refusal) -> u16 {
+        match refusal {
+            Refusal::Size => 20,
+            Refusal::Malformed => 21,
+            Refusal::Header => 22,
+            Refusal::Number => 23,
+            Refusal::Links => 24,
+            Refusal::Labels => 25,
+            Refusal::Limit => 26,
+        }
     }
+}
+
+// A refusal and the line at fault, 0 where no line is.
+#[derive(Clone, Copy, PartialEq, Eq, Debug)]
+pub struct Fault {
+    pub refusal: Refusal,
+    pub line: u16,
 }

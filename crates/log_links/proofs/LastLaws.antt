@@ -1,5 +1,5 @@
 -- The last step to which each step has a link, link by link and step by step.
-use Prim.Native.Nat.{ℕ, ◌+◌, ◌-◌, ◌*◌, ◌^◌, ◌≤◌, ◌<◌}
+use Prim.Native.Nat.{ℕ, ◌+◌, ◌≤◌, ◌<◌}
 use mathlib.Core.Path.{◌≡◌, refl, sym, ap, ◌∙◌, subst}
 use mathlib.Core.Bool.{Bool, true, false, cond, ◌||◌, or-false, or-true, or_assoc}
 use mathlib.Core.List.{List, [], ◌∷◌, ◌++◌}
@@ -7,18 +7,17 @@ use native.Mathlib.Decide.{ℕ_discrete}
 use native.Mathlib.Numerals.{add-one}
 use native.Mathlib.Omega.{arith}
 use borrow.Author.Tests.{eq-eqb, ne_eqb}
-use lib.Dec.{T, eqb}
-use lib.ListN.{length, get_or, set, take, drop, replicate}
+use lib.Dec.{eqb}
+use lib.ListN.{length, get_or, set, take, replicate}
 use lib.Seq.{get_or-set_same, get_or-set_other, take_all, take-suc}
 use Rattle.lists.proofs.Tables.{zeros_at}
 use Rattle.sets.specs.Sets.{◌∈◌}
 use Rattle.sets.proofs.Truth.{yes_true}
 use Rattle.necklace.specs.Compute.{elem}
 use Rattle.necklace.proofs.Lists.{elem_in}
-use Rattle.layout.specs.Layout.{link_at}
+use Rattle.layout.specs.Layout.{most_steps}
 use Rattle.log_buffer.specs.Meaning.{steps_in, links_into}
-use Rattle.log_links.specs.Links.{Laid, Begins, Inside, Noted, LastTo}
-use Rattle.log_links.proofs.LinkLaws.{links_order, links_inside, links_are}
+use Rattle.log_links.specs.Links.{Laid, Inside, Noted, LastTo}
 
 -- ---- listed steps
 
@@ -43,21 +42,14 @@ note_none links v l = record { numbers = λ w. refl }
 pub note_end : (links : List ℕ) (i v : ℕ) (old l : List ℕ) → length links ≤ i → Noted (take i links) v old l → Noted links v old l
 note_end links i v old l h p = rw (take_all i links h) at p
 
-module _ (links : List ℕ) (i u : ℕ) (h : i < length links) (link : u ≡ get_or links i 0) (old l : List ℕ) (inside : Inside (length old) links)
-    (same : length l ≡ length old) where
-  pub link_inside : u < length l
-  link_inside = let k = inside.below i h in omega arith
+pub note_more : (links : List ℕ) (i u v : ℕ) (old l : List ℕ) → i < length links → u ≡ get_or links i 0 → Inside (length old) links
+    → length l ≡ length old → Noted (take i links) v old l → Noted (take (i + 1) links) v old (set l u v)
+note_more links i u v old l h link inside same p =
+    let more : take (i + 1) links ≡ take i links ++ (u ∷ []) =
+    ap (λ (j : ℕ). take j links) (add-one i) ∙ take-suc links i 0 h ∙ ap (λ (y : ℕ). take i links ++ (y ∷ [])) (sym link) in
+    rw more (noted_more (take i links) u v old l p (let k = inside.below i h in omega arith))
 
-  pub link_scaled : length old * 2 < 2 ^ 63 → u * 2 < 2 ^ 64
-  link_scaled f = let k = inside.below i h in omega arith
-
-  pub note_more : (v : ℕ) → Noted (take i links) v old l → Noted (take (i + 1) links) v old (set l u v)
-  note_more v p =
-      let more : take (i + 1) links ≡ take i links ++ (u ∷ []) =
-      ap (λ (j : ℕ). take j links) (add-one i) ∙ take-suc links i 0 h ∙ ap (λ (y : ℕ). take i links ++ (y ∷ [])) (sym link) in
-      rw more (noted_more (take i links) u v old l p link_inside)
-
-pub ruleset note_kit = (note_none, note_end, link_inside, link_scaled, note_more)
+pub ruleset note_kit = (note_none, note_end, note_more)
 
 -- ---- a step, and all steps
 
@@ -67,12 +59,12 @@ last_none log old l laid e = record {
   inside = λ u. let s = laid.some in let z : get_or l u 0 ≡ 0 = ap (λ (k : List ℕ). get_or k u 0) e ∙ zeros_at (length old) u in omega arith;
 }
 
-pub last_more : (log : List ℕ) (x from to : ℕ) → Laid log → x < steps_in log → Begins log x from → Begins log (x + 1) to → (old l : List ℕ)
-    → Noted (take (link_at to - link_at from) (drop (link_at from) log)) x old l → LastTo log x old → LastTo log (x + 1) l
-last_more log x from to laid h begins ends old l made d = record { far = λ u v k m. far u v k m (ℕ_discrete v x); inside = λ u. inside u (elem u (links_into log x)) (p.numbers u) }
+pub last_more : (log : List ℕ) (x : ℕ) (links old l : List ℕ) → links ≡ links_into log x → x < steps_in log → Noted links x old l → LastTo log x old
+    → LastTo log (x + 1) l
+last_more log x links old l e h made d = record { far = λ u v k m. far u v k m (ℕ_discrete v x); inside = λ u. inside u (elem u (links_into log x)) (p.numbers u) }
   where
     p : Noted (links_into log x) x old l
-    p = rw (links_are log x from to laid h begins ends) at made
+    p = rw e at made
 
     inside : (u : ℕ) (b : Bool) → get_or l u 0 ≡ cond b x (get_or old u 0) → get_or l u 0 < steps_in log
     inside u true e = omega arith
@@ -92,15 +84,10 @@ last_more log x from to laid h begins ends old l made d = record { far = λ u v 
         below : v < x + 1 → (v ≡ x → ⊥) → v < x
         below k n = omega arith
 
-pub step_fits : (log : List ℕ) (x : ℕ) → Laid log → x < steps_in log → x < 65536
-step_fits log x laid h = let f = laid.few in omega arith
-
-pub ruleset into_kit = (links_order, links_inside, step_fits, last_more)
-
-pub last_end : (log : List ℕ) (n x : ℕ) (l : List ℕ) → n ≡ get_or log 0 0 → n ≤ x → LastTo log x l → LastTo log (steps_in log) l
+pub last_end : (log : List ℕ) (n x : ℕ) (l : List ℕ) → n ≡ steps_in log → n ≤ x → LastTo log x l → LastTo log (steps_in log) l
 last_end log n x l e h d = record { far = λ u v k m. d.far u v (omega arith) m; inside = d.inside }
 
-pub log_there : (log : List ℕ) → Laid log → 0 < length log
-log_there log laid = let l = laid.long in omega arith
+pub links_within : (links l : List ℕ) → Inside most_steps links → most_steps ≤ length l → Inside (length l) links
+links_within links l p long = record { below = λ i k. let s = p.below i k in omega arith }
 
-pub ruleset kit = (last_none, last_end, log_there)
+pub ruleset last_kit = (last_none, last_more, last_end, links_within)

@@ -1,6 +1,6 @@
 -- The links into a step, as a part of the log buffer.
-use Prim.Native.Nat.{ℕ, ◌+◌, ◌-◌, ◌≤◌, ◌<◌, min}
-use mathlib.Core.Path.{◌≡◌, sym, ap, ◌∙◌, subst}
+use Prim.Native.Nat.{ℕ, ◌+◌, ◌-◌, ◌<◌, min}
+use mathlib.Core.Path.{◌≡◌, sym, ap, ◌∙◌}
 use mathlib.Core.List.{List}
 use native.Mathlib.Omega.{arith}
 use borrow.Author.Tests.{eqb-true}
@@ -8,11 +8,10 @@ use lib.Dec.{T, eqb}
 use lib.ListN.{length, get_or, take, drop, length-take}
 use lib.Seq.{get_or-take, get_or-drop}
 use Rattle.lists.specs.Places.{at}
-use Rattle.sets.specs.Sets.{◌∈◌, members}
+use Rattle.sets.specs.Sets.{members}
 use Rattle.sets.proofs.Agree.{members_empty}
-use Rattle.necklace.specs.Dag.{WellFormed}
-use Rattle.layout.specs.Layout.{begin_at, link_at}
-use Rattle.log_buffer.specs.Meaning.{steps_in, links_into, log_of}
+use Rattle.layout.specs.Layout.{labels_at, link_at}
+use Rattle.log_buffer.specs.Meaning.{steps_in, links_into}
 use Rattle.log_buffer.specs.Valid.{is_log}
 use Rattle.log_buffer.proofs.Meaning.{labels_are, link_below}
 use Rattle.log_buffer.proofs.Sound.{sound_iff, begin_next, begin_inside}
@@ -31,13 +30,7 @@ laid count log t =
       smaller = λ v i h l m. link_below s v h i l m;
     }
 
-pub begin_few : (log : List ℕ) (v r : ℕ) → Laid log → v ≤ steps_in log → r ≡ at log (begin_at v) → r ≤ 4096
-begin_few log v r laid h e = let k = laid.inside v h in omega arith
-
 module _ (log : List ℕ) (x from to : ℕ) (laid : Laid log) (h : x < steps_in log) (begins : Begins log x from) (ends : Begins log (x + 1) to) where
-  pub links_order : link_at from ≤ link_at to
-  links_order = let k = laid.order x h in let b = begins.place in let e = ends.place in omega arith
-
   pub links_are : take (link_at to - link_at from) (drop (link_at from) log) ≡ links_into log x
   links_are =
       let n : link_at to - link_at from ≡ to - from = omega arith in
@@ -59,19 +52,9 @@ module _ (log : List ℕ) (x from to : ℕ) (laid : Laid log) (h : x < steps_in 
           let m = laid.smaller x (from + i) h (omega arith) (omega arith) in
           omega arith
 
-  pub links_inside : (l : List ℕ) → 1024 ≤ length l → Inside (length l) (take (link_at to - link_at from) (drop (link_at from) log))
-  links_inside l long = record { below = λ i k. let s = links_small.below i k in omega arith }
-
-pub ruleset place_kit = (begin_few, links_order, links_inside)
-
 -- ---- a step without labels
 
-pub bare_if : (log : List ℕ) (x : ℕ) → x < steps_in log → BareIf log x (eqb (get_or log (1 + x) 0) 0)
-bare_if log x h = record {
-  labels = λ e. labels_are log x h ∙ ap (members 16) (eqb-true (get_or log (1 + x) 0) 0 e) ∙ members_empty 16;
+pub bare_if : (log : List ℕ) (x labels : ℕ) → labels ≡ at log (labels_at x) → x < steps_in log → BareIf log x (eqb labels 0)
+bare_if log x labels z h = record {
+  labels = λ e. labels_are log x h ∙ ap (members 16) (sym z ∙ eqb-true labels 0 e) ∙ members_empty 16;
 }
-
-pub label_in : (log : List ℕ) (x : ℕ) → Laid log → x < steps_in log → 1 + x < length log
-label_in log x l h = let n = l.long in let f = l.few in omega arith
-
-pub ruleset bare_kit = (bare_if, label_in)

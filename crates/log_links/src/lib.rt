@@ -1,80 +1,91 @@
-// The links of a log buffer: where those into a step begin, and the last step to which each step has a link.
+// The links of a log buffer: those into a step, and the last step to which each step has a link.
 #![tactic(auto)]
 
 ghost use Rattle.std.specs.Prelude.{◌≡◌, ◌+◌, ◌<◌, ◌≤◌, length};
-ghost use Rattle.layout.specs.Layout.{most_steps};
-ghost use Rattle.log_buffer.specs.Meaning.{steps_in};
+ghost use Rattle.lists.specs.Places.{at};
+ghost use Rattle.layout.specs.Layout.{most_steps, labels_at};
+ghost use Rattle.log_buffer.specs.Meaning.{steps_in, links_into};
 ghost use Rattle.log_links.specs.Links.{Laid, Begins, Inside, BareIf, Noted, LastTo};
 
-// Where among the links those of the step v begin; after the last step, the link count.
-pub fn begin(log: &[u16], v: usize) -> usize
-    requires laid { Laid log.now }
-    requires v_bound { v ≤ steps_in log.now }
-    ensures { Begins log.now v result }
-{
-    lists::wide(log[layout::BEGINS + v])
+// A log buffer whose links lie in order and inside it.
+#[derive(Clone, Copy)]
+pub struct Log<'a> {
+    pub numbers: &'a [u16],
+    ghost laid: { Laid numbers.now },
 }
 
-// Has the step no labels? Entering it then leaves every state as it is.
-pub fn is_bare(log: &[u16], x: usize) -> bool
-    requires laid { Laid log.now }
-    requires x_bound { x < steps_in log.now }
-    ensures { BareIf log.now x result }
-{
-    log[layout::LABEL_SETS + x] == 0
+impl<'a> Log<'a> {
+    pub fn new(numbers: &'a [u16]) -> Log<'a>
+        requires { Laid numbers.now }
+        ensures { result.numbers.now ≡ numbers.now }
+    {
+        Log { numbers }
+    }
+
+    // How many steps there are.
+    pub fn steps(self) -> usize
+        ensures { result ≡ steps_in self.entry.numbers.now }
+    {
+        usize::from(self.numbers[0])
+    }
+
+    // The label set of the step x.
+    pub fn labels(self, x: usize) -> u16
+        requires { x < steps_in self.numbers.now }
+        ensures { result ≡ at self.entry.numbers.now (labels_at x) }
+    {
+        self.numbers[layout::LABEL_SETS + x]
+    }
+
+    // Has the step no labels? Entering it then leaves every state as it is.
+    #[tactic(auto, using(crate::proofs::LinkLaws::bare_if))]
+    pub fn is_bare(self, x: usize) -> bool
+        requires { x < steps_in self.numbers.now }
+        ensures { BareIf self.entry.numbers.now x result }
+    {
+        self.labels(x) == 0
+    }
+
+    // Where among the links those of the step v begin; after the last step, the link count.
+    pub fn begin(self, v: usize) -> usize
+        requires { v ≤ steps_in self.numbers.now }
+        ensures { Begins self.entry.numbers.now v result }
+    {
+        usize::from(self.numbers[layout::BEGINS + v])
+    }
+
+    // The links into the step v: its predecessors.
+    #[tactic(auto, using(crate::proofs::LinkLaws::links_small))]
+    pub fn into_step(self, v: usize) -> &'a [u16]
+        requires { v < steps_in self.numbers.now }
+        ensures links { result.now ≡ links_into self.entry.numbers.now v }
+        ensures inside { Inside most_steps result.now }
+    {
+        let from = self.begin(v);
+        let to = self.begin(v + 1);
+        &self.numbers[layout::LINKS + from..layout::LINKS + to]
+    }
 }
 
 // Notes the step v for each listed step.
+#[tactic(auto, using(crate::proofs::LastLaws::note_kit))]
 fn note(links: &[u16], v: u16, last: &mut [u16])
     requires { Inside (length last.old) links.now }
     ensures { Noted links.now v last.old last.new }
 {
-    let mut i = 0;
-    while i < links.len() {
-        let u = lists::wide(links[i]);
-        last[u] = v;
-        i += 1;
+    for u in links {
+        last[usize::from(*u)] = v;
     }
 }
 
-// Notes the step v for each of its predecessors, the steps below it being noted.
-fn note_into(log: &[u16], v: usize, last: &mut [u16])
-    requires laid { Laid log.now }
-    requires v_bound { v < steps_in log.now }
-    requires most_steps_in_bounds { most_steps ≤ length last.old }
-    requires last_to { LastTo log.now v last.old }
-    ensures { LastTo log.now (v + 1) last.new }
+// For each step the last one to which it has a link, 0 where there is none. Upwards, so that the last one stays.
+#[tactic(auto, using(crate::proofs::LastLaws::last_kit))]
+pub fn last_links(log: Log, last: &mut [u16])
+    requires { most_steps ≤ length last.old }
+    ensures { LastTo log.entry.numbers.now (steps_in log.entry.numbers.now) last.new }
 {
-    let from = begin(log, v);
-    let to = begin(log, v + 1);
-    note(
-        &log[layout::LINKS + from..layout::LINKS + to],
-        v as u16,
-        last,
-    );
-}
-
-// Notes each step for its predecessors, upwards, so that the last one stays.
-fn note_all(log: &[u16], last: &mut [u16])
-    requires laid { Laid log.now }
-    requires most_steps_in_bounds { most_steps ≤ length last.old }
-    requires last_to { LastTo log.now 0 last.old }
-    ensures { LastTo log.now (steps_in log.now) last.new }
-{
-    let n = lists::wide(log[0]);
-    let mut v = 0;
-    while v < n {
-        note_into(log, v, last);
-        v += 1;
+    last.fill(0);
+    for v in 0..log.steps() {
+        note(log.into_step(v), v as u16, last);
     }
-}
-
-// For each step the last one to which it has a link, 0 where there is none.
-pub fn last_links(log: &[u16], last: &mut [u16])
-    requires laid { Laid log.now }
-    requires most_steps_in_bounds { most_steps ≤ length last.old }
-    ensures { LastTo log.now (steps_in log.now) last.new }
-{
-    lists::clear_all(last);
-    note_all(log, last);
 }

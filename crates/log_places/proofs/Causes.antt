@@ -98,7 +98,6 @@ and_right false false e = e
 
 names_differ : (same_bytes vertex_name board_name ≡ false) × (same_bytes vertex_name labels_name ≡ false) × (same_bytes vertex_name preds_name ≡ false)
     × (same_bytes board_name labels_name ≡ false) × (same_bytes board_name preds_name ≡ false) × (same_bytes labels_name preds_name ≡ false)
-unfolding same_bytes
 names_differ = (refl, refl, refl, refl, refl, refl)
 
 pub header_ordered : (hs : List (List ℕ)) → is_header hs ≡ true → Ordered (columns_of hs)

@@ -3,63 +3,17 @@
 use mathlib.Core.Path.{◌≡◌, refl, sym, ap, ◌∙◌, subst}
 use mathlib.Core.Bool.{Bool, true, false, not, ◌&&◌, ◌||◌}
 use mathlib.Core.List.{List, [], ◌∷◌}
-use Prim.Native.Nat.{ℕ, zero, suc, ◌+◌, ◌≤◌, ◌<◌}
+use Prim.Native.Nat.{ℕ, zero, suc, ◌≤◌, ◌<◌}
 use native.Mathlib.Omega.{arith}
-use borrow.Author.Tests.{lt-ltb, le-ltb, lt-leb, le-leb, ltb-true, ltb-false, eq-eqb, ne_eqb, eqb-true, eqb-false}
-use lib.Dec.{T, eqb, leb, ltb}
+use borrow.Author.Tests.{ltb-true, ltb-false, eqb-true, eqb-false}
+use lib.Dec.{T, eqb, ltb}
 use lib.ListN.{length, get_or}
-use Rattle.lists.proofs.LeftmostLaws.{NoneBelow, below_none, below_more, clash}
+use Rattle.lists.proofs.LeftmostLaws.{clash}
 use Rattle.fields.specs.Fields.{same_bytes}
 use Rattle.fields.proofs.FieldLaws.{same_agrees}
-use Rattle.line_places.specs.Place.{place_at}
-use Rattle.line_places.proofs.PlaceLaws.{where_found, where_none}
 use Rattle.log_line.specs.Header.{vertex_name, board_name, labels_name, preds_name, place_of, Columns, columns_of}
-use Rattle.log_places.specs.Place.{is_column, wrong_name, header_at}
+use Rattle.log_places.specs.Place.{is_column, wrong_name}
 use Rattle.log_places.specs.Names.{is_place}
-
--- ---- the columns
-
-pub columns_are : (fs : List (List ℕ)) (v b s p : ℕ) → v ≡ place_of vertex_name fs → b ≡ place_of board_name fs → s ≡ place_of labels_name fs → p ≡ place_of preds_name fs
-    → ◌≡◌ {A = Columns} (record { vertex = v; board = b; labels = s; preds = p }) (columns_of fs)
-columns_are fs v b s p e f g h = rw (e, f, g, h) refl
-
-pub ruleset columns_kit = (columns_are)
-
--- ---- a place of no column
-
-pub not_below : (i n : ℕ) → leb n i ≡ not (ltb i n)
-not_below i n = go (ltb i n) refl
-  where
-    go : (t : Bool) → ltb i n ≡ t → leb n i ≡ not (ltb i n)
-    go true e = lt-leb n i (ltb-true i n e) ∙ sym (rw e refl)
-    go false e = le-leb n i (ltb-false i n e) ∙ sym (rw e refl)
-
-or_true : (a : Bool) → (a || true) ≡ true
-or_true true = refl
-or_true false = refl
-
-module _ (c : Columns) (i : ℕ) where
-  pub wrong_fifth : 4 ≤ i → true ≡ (not (is_place c i) || not (ltb i 4))
-  wrong_fifth h = sym (rw (le-ltb i 4 h) (or_true (not (is_place c i))))
-
-  module _ (h : i < 4) where
-    pub right_vertex : i ≡ c.vertex → false ≡ (not (is_place c i) || not (ltb i 4))
-    right_vertex a = sym (rw (lt-ltb i 4 h, eq-eqb i c.vertex a) refl)
-
-    pub right_board : (i ≡ c.vertex → ⊥) → i ≡ c.board → false ≡ (not (is_place c i) || not (ltb i 4))
-    right_board a b = sym (rw (lt-ltb i 4 h, ne_eqb i c.vertex a, eq-eqb i c.board b) refl)
-
-    pub right_labels : (i ≡ c.vertex → ⊥) → (i ≡ c.board → ⊥) → i ≡ c.labels → false ≡ (not (is_place c i) || not (ltb i 4))
-    right_labels a b d = sym (rw (lt-ltb i 4 h, ne_eqb i c.vertex a, ne_eqb i c.board b, eq-eqb i c.labels d) refl)
-
-    module _ (a : i ≡ c.vertex → ⊥) (b : i ≡ c.board → ⊥) (d : i ≡ c.labels → ⊥) where
-      pub right_preds : i ≡ c.preds → false ≡ (not (is_place c i) || not (ltb i 4))
-      right_preds e = sym (rw (lt-ltb i 4 h, ne_eqb i c.vertex a, ne_eqb i c.board b, ne_eqb i c.labels d, eq-eqb i c.preds e) refl)
-
-      pub wrong_none : (i ≡ c.preds → ⊥) → true ≡ (not (is_place c i) || not (ltb i 4))
-      wrong_none e = sym (rw (lt-ltb i 4 h, ne_eqb i c.vertex a, ne_eqb i c.board b, ne_eqb i c.labels d, ne_eqb i c.preds e) refl)
-
-pub ruleset wrong_kit = (wrong_fifth, right_vertex, right_board, right_labels, right_preds, wrong_none)
 
 -- ---- the place of a name
 
@@ -93,13 +47,6 @@ place_first name (f ∷ fs) (suc i) h e = go (same_bytes f name) refl (place_fir
 
 pub same_is : (f name : List ℕ) → same_bytes f name ≡ true → f ≡ name
 same_is f name e = (same_agrees f name).0 (subst T (sym e) tt)
-
-pub same_refl : (f : List ℕ) → same_bytes f f ≡ true
-same_refl f = go (same_bytes f f) ((same_agrees f f).1 refl)
-  where
-    go : (t : Bool) → T t → t ≡ true
-    go true u = refl
-    go false u = absurd u
 
 -- ---- a name stands at its place just where it is the one named, and stands there first
 
@@ -159,18 +106,3 @@ module _ (fs : List (List ℕ)) (i : ℕ) (h : i < length fs) where
   name_wrong c e r g =
       g ∙ ap (λ (d : Columns). not (is_place d i) || not (ltb i 4)) e ∙ ap (λ (t : Bool). not t || not (ltb i 4)) place_column
       ∙ dual (is_column here) before (not (ltb i 4))
-
--- ---- the leftmost
-
-module _ (fs : List (List ℕ)) (c : Columns) (named : c ≡ columns_of fs) (n : ℕ) (count : n ≡ length fs) (i : ℕ) (passed : NoneBelow (wrong_name fs) i) where
-  module _ (r : Bool) (h : i < n) (given : r ≡ (not (is_place c i) || not (ltb i 4))) where
-    pub header_more : r ≡ false → NoneBelow (wrong_name fs) (i + 1)
-    header_more e = below_more (wrong_name fs) i passed r (name_wrong fs i (omega arith) c named r given) e
-
-    pub header_found : r ≡ true → (p : ℕ) → p ≡ place_at fs i → p ≡ header_at fs
-    header_found e p q = where_found (wrong_name fs) fs i passed n count r h (name_wrong fs i (omega arith) c named r given) e p q
-
-  pub header_none : i ≤ n → n ≤ i → 0 ≡ header_at fs
-  header_none h k = where_none (wrong_name fs) fs i passed n count h k
-
-pub ruleset header_kit = (below_none, header_more, header_found, header_none)

@@ -3,7 +3,7 @@
 use mathlib.Core.Path.{◌≡◌, refl, sym, ap, ◌∙◌, subst}
 use mathlib.Core.Bool.{Bool, true, false, not, cond, ◌||◌}
 use mathlib.Core.List.{List, [], ◌∷◌, ◌++◌}
-use Prim.Native.Nat.{ℕ, ◌+◌, ◌-◌, ◌≤◌}
+use Prim.Native.Nat.{ℕ, ◌+◌, ◌≤◌}
 use native.Mathlib.Omega.{arith}
 use borrow.Author.Tests.{ne_eqb, ltb-false, eqb-false}
 use lib.Dec.{ltb, eqb}
@@ -15,7 +15,7 @@ use Rattle.text.specs.Walk.{Judged, refused, passed, Outcome, accepted, faulty, 
 use Rattle.log_line.specs.Header.{columns_of, is_header}
 use Rattle.log_line.specs.Step.{Step, step_of, step_at, are_numbers_at, malformed, misnumbered, mislinked, mislabelled, link_count, over_limit}
 use Rattle.log_line.specs.Format.{Known, judge_header, judge_step, judge_line, conclude, log_text}
-use Rattle.log_step.specs.Answers.{InLimits}
+use Rattle.log_step.specs.Limits.{InLimits}
 use Rattle.log_step.proofs.StepLaws.{in_limits}
 use Rattle.log_store.specs.Accepted.{StepFits, StepsFit, none, more}
 use Rattle.log_store.proofs.BufferLaws.{count_end, count_more}

@@ -9,9 +9,10 @@ use lib.ListN.{length-replicate}
 use lib.Seq.{drop-drop, drop-append-add, set_at, take_at, take_all, length-take-le}
 use borrow.Rule.Slice.PartMut.{put_mid}
 use Rattle.log_line.specs.Step.{Step, link_count}
-use Rattle.log_step.specs.Answers.{InLimits}
+use Rattle.log_step.specs.Limits.{InLimits}
 use Rattle.log_store.specs.Buffer.{padded, begins, links, buffer_of}
 use Rattle.log_store.specs.Stores.{values_stored, links_stored, StepStored}
+use Rattle.log_line.specs.declared.preds.Links.{Links}
 use Rattle.log_step.specs.declared.StepValues.{StepValues}
 
 -- ---- the places of a step
@@ -303,25 +304,25 @@ module _ (xs : List Step) (x : Step) (v before : ℕ) (counted : length xs ≡ v
       (sym (buffer_blocks (xs ++ (x ∷ []))))
 
 -- As the code has it: the links are the first of eight places.
-module _ (old preds : List ℕ) (v before : ℕ) (w : StepValues) (size : length old ≡ 7170) (eight : length preds ≡ 8)
-    (ok : InLimits w.count v before) where
-  pub links_taken : w.count ≡ length (take w.count preds)
-  links_taken = sym (length-take-le w.count preds (let h = ok.few in omega arith))
+module _ (old : List ℕ) (v before : ℕ) (w : StepValues) (n : Links) (size : length old ≡ 7170) (eight : length n.first ≡ 8)
+    (ok : InLimits n.count v before) where
+  pub links_taken : n.count ≡ length (take n.count n.first)
+  links_taken = sym (length-take-le n.count n.first (let h = ok.few in omega arith))
 
-  pub links_fit : before + length (take w.count preds) ≤ 4096
+  pub links_fit : before + length (take n.count n.first) ≤ 4096
   links_fit = let h = ok.all in let e = links_taken in omega arith
 
-  pub step_stored : (mid new : List ℕ) → mid ≡ values_stored old v w.labels w.board (before + w.count)
-      → new ≡ links_stored mid before (take w.count preds)
-      → StepStored old v before (record { board = w.board; labels = w.labels; preds = take w.count preds }) new
+  pub step_stored : (mid new : List ℕ) → mid ≡ values_stored old v w.labels w.board (before + n.count)
+      → new ≡ links_stored mid before (take n.count n.first)
+      → StepStored old v before (record { board = w.board; labels = w.labels; preds = take n.count n.first }) new
   step_stored mid new p q = record {
-    size = let a = ap length p ∙ length_values old v w.labels w.board (before + w.count) in ap length q
-        ∙ length_stored mid (take w.count preds) before (a ∙ size) links_fit;
+    size = let a = ap length p ∙ length_values old v w.labels w.board (before + n.count) in ap length q
+        ∙ length_stored mid (take n.count n.first) before (a ∙ size) links_fit;
     grown = λ xs counted edges is.
         q
-        ∙ ap (λ (k : List ℕ). links_stored k before (take w.count preds))
+        ∙ ap (λ (k : List ℕ). links_stored k before (take n.count n.first))
         (p ∙ ap₂ (λ (k : List ℕ) (n : ℕ). values_stored k v w.labels w.board (before + n)) is links_taken)
-        ∙ grow xs (record { board = w.board; labels = w.labels; preds = take w.count preds }) v before counted edges
+        ∙ grow xs (record { board = w.board; labels = w.labels; preds = take n.count n.first }) v before counted edges
         (subst (λ (n : ℕ). InLimits n v before) links_taken ok);
   }
 

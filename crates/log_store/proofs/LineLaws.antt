@@ -1,57 +1,50 @@
 -- A line's step, added to the buffer of those before it, or refused.
 -- Assumes nothing.
 use mathlib.Core.Path.{◌≡◌, refl, sym, ◌∙◌, subst}
-use mathlib.Core.Bool.{false}
 use mathlib.Core.List.{List}
 use Prim.Native.Nat.{ℕ}
 use native.Mathlib.Omega.{arith}
-use lib.Dec.{eqb}
 use lib.ListN.{length, take}
 use lib.Seq.{length-take-le}
-use Rattle.text.specs.Split.{split}
-use Rattle.log_line.specs.Answers.{refusal_number, order_of}
+use Rattle.std.specs.Prelude.{Result, Ok, Err}
+use Rattle.log_line.specs.Header.{Columns}
 use Rattle.log_line.specs.declared.refusals.Refusal.{Refusal}
-use Rattle.log_line.specs.declared.refusals.Refusal.TheVariants.{Size, Malformed, Header, Number, Links, Labels, Limit}
-use Rattle.log_line.specs.declared.header.ColumnOrder.{ColumnOrder}
-use Rattle.log_step.specs.Answers.{InLimits, Limited, StepJudged}
+use Rattle.log_step.specs.Limits.{InLimits}
+use Rattle.log_step.specs.Answers.{Limited, StepJudged}
+use Rattle.log_line.specs.declared.preds.Links.{Links}
 use Rattle.log_step.specs.declared.StepValues.{StepValues}
-use Rattle.log_step.specs.declared.LineAnswer.{LineAnswer}
-use Rattle.log_step.specs.declared.LineAnswer.TheVariants.{Values, Refused}
 use Rattle.log_store.specs.Stores.{StepStored, LineAdded}
 
-pub number_some : (f : Refusal) → eqb (refusal_number f) 0 ≡ false
-number_some Size = refl
-number_some Malformed = refl
-number_some Header = refl
-number_some Number = refl
-number_some Links = refl
-number_some Labels = refl
-number_some Limit = refl
-
-module _ (count v before : ℕ) (o : ColumnOrder) (l old preds : List ℕ) (a : LineAnswer)
-    (j : StepJudged count v before (order_of o) (split 32 l) a preds) where
-  pub line_refused : length old ≡ 7170 → (f : Refusal) → a ≡ Refused f → LineAdded count v before (order_of o) (split 32 l) old (Refused f) old
+module _ (count v before : ℕ) (c : Columns) (fs : List (List ℕ)) (old : List ℕ) (a : Result (StepValues × Links) Refusal)
+    (j : StepJudged count v before c fs a) where
+  pub line_refused : length old ≡ 7170 → (f : Refusal) → a ≡ Err f → LineAdded count v before c fs old (Err f) old
   line_refused s f q = record {
     size = s;
     limits = tt;
-    added = λ xs counted edges is. sym (j.judged xs edges) ∙ rw (q, number_some f);
+    added = λ xs counted edges is. sym (j.judged xs edges) ∙ rw q refl;
   }
 
-  module _ (w : StepValues) (q : a ≡ Values w) where
-    pub line_limits : InLimits w.count v before
-    line_limits = subst (Limited v before) q j.limits
+  module _ (w : StepValues × Links) (q : a ≡ Ok w) where
+    line_kept : (length w.1.first ≡ 8) × InLimits w.1.count v before
+    line_kept = subst (Limited v before) q j.limits
 
-    pub line_added : (new : List ℕ) → StepStored old v before (record { board = w.board; labels = w.labels; preds = take w.count preds }) new
-        → LineAdded count v before (order_of o) (split 32 l) old (Values w) new
+    pub line_room : length w.1.first ≡ 8
+    line_room = line_kept.0
+
+    pub line_limits : InLimits w.1.count v before
+    line_limits = line_kept.1
+
+    pub line_added : (new : List ℕ) → StepStored old v before (record { board = w.0.board; labels = w.0.labels; preds = take w.1.count w.1.first }) new
+        → LineAdded count v before c fs old (Ok w) new
     line_added new s = record {
       size = s.size;
-      limits = line_limits;
+      limits = line_kept;
       added = λ xs counted edges is. (
-        take w.count preds,
-        (let h = line_limits.few in let z = j.size in length-take-le w.count preds (omega arith)),
-        sym (j.judged xs edges) ∙ rw q,
+        take w.1.count w.1.first,
+        (let h = line_limits.few in let z = line_room in length-take-le w.1.count w.1.first (omega arith)),
+        sym (j.judged xs edges) ∙ rw q refl,
         s.grown xs counted edges is,
       );
     }
 
-pub ruleset line_kit = (line_refused, line_limits, line_added)
+pub ruleset line_kit = (line_refused, line_room, line_limits, line_added)

@@ -5,7 +5,6 @@ use mathlib.Core.List.{List, [], ◌∷◌, ◌++◌, map}
 use Prim.Native.Nat.{ℕ}
 use lib.ListN.{get_or}
 use Rattle.text.specs.Split.{split}
-use Rattle.fields.specs.Fields.{same_bytes}
 use Rattle.text.specs.Lines.{as_lines, printable}
 use Rattle.numbers.specs.Numbers.{digits, value_from, decimal}
 use Rattle.text.specs.Walk.{accepted, faulty, walk}
@@ -42,7 +41,7 @@ steps =
 
 -- The listing is accepted under its three labels, and says these steps.
 pub listing_read : log_text 3 listing ≡ accepted (record { columns = record { vertex = 0; board = 1; labels = 2; preds = 3 }; steps = steps })
-unfolding split same_bytes as_lines printable digits value_from decimal walk place_of are_numbers rising_below link_count
+unfolding split as_lines printable digits value_from decimal walk place_of are_numbers rising_below link_count
 listing_read = refl
 
 -- Step count; label sets, boards and beginnings of the steps 0 to 6 and one place more; and the links.
@@ -72,5 +71,5 @@ refusals =
 pub refusals_given :
     map (λ (t : List ℕ). log_text 3 t) refusals
     ≡ faulty 21 2 ∷ faulty 22 1 ∷ faulty 23 2 ∷ faulty 24 3 ∷ faulty 25 3 ∷ faulty 26 1 ∷ []
-unfolding split same_bytes as_lines printable digits value_from decimal walk place_of are_numbers rising_below link_count
+unfolding split as_lines printable digits value_from decimal walk place_of are_numbers rising_below link_count
 refusals_given = refl

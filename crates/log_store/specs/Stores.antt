@@ -1,5 +1,5 @@
 -- The buffer with one step more.
-use Rattle.std.specs.Prelude.{ℕ, ◌+◌, ◌≡◌, List, [], ◌∷◌, ◌++◌, length, take, drop, set}
+use Rattle.std.specs.Prelude.{ℕ, ◌+◌, ◌≡◌, List, [], ◌∷◌, ◌++◌, length, take, drop, set, Result, Ok, Err}
 use Rattle.text.specs.Walk.{refused, passed}
 use Rattle.layout.specs.Layout.{labels_at, board_at, begin_at, link_at, log_length}
 use Rattle.log_line.specs.Header.{Columns}
@@ -7,8 +7,9 @@ use Rattle.log_line.specs.Step.{Step, link_count}
 use Rattle.log_line.specs.Format.{Known, judge_step}
 use Rattle.log_line.specs.Answers.{refusal_number}
 use Rattle.log_step.specs.Answers.{Limited}
-use Rattle.log_step.specs.declared.LineAnswer.{LineAnswer}
-use Rattle.log_step.specs.declared.LineAnswer.TheVariants.{Values, Refused}
+use Rattle.log_line.specs.declared.refusals.Refusal.{Refusal}
+use Rattle.log_line.specs.declared.preds.Links.{Links}
+use Rattle.log_step.specs.declared.StepValues.{StepValues}
 use Rattle.log_store.specs.Buffer.{buffer_of}
 
 -- The numbers with the step count, step v's label set and board, and where the links of the next step begin.
@@ -29,15 +30,15 @@ abbrev pub knowing : Columns → List Step → Known
 knowing c xs = record { columns = c; steps = xs }
 
 -- After the steps xs the fields are refused, or give one step more, with the links us, which is in the buffer.
-abbrev pub Added : ℕ → ℕ → Columns → List (List ℕ) → List Step → LineAnswer → List ℕ → Type 0
-Added count v c fs xs (Refused f) new = judge_step count (knowing c xs) (v + 2) fs ≡ refused (refusal_number f)
-Added count v c fs xs (Values w) new =
+abbrev pub Added : ℕ → ℕ → Columns → List (List ℕ) → List Step → Result (StepValues × Links) Refusal → List ℕ → Type 0
+Added count v c fs xs (Err f) new = judge_step count (knowing c xs) (v + 2) fs ≡ refused (refusal_number f)
+Added count v c fs xs (Ok w) new =
     (us : List ℕ)
-    × (length us ≡ w.count)
-    × (judge_step count (knowing c xs) (v + 2) fs ≡ passed (knowing c (xs ++ (record { board = w.board; labels = w.labels; preds = us } ∷ []))))
-    × (new ≡ buffer_of (xs ++ (record { board = w.board; labels = w.labels; preds = us } ∷ [])))
+    × (length us ≡ w.1.count)
+    × (judge_step count (knowing c xs) (v + 2) fs ≡ passed (knowing c (xs ++ (record { board = w.0.board; labels = w.0.labels; preds = us } ∷ []))))
+    × (new ≡ buffer_of (xs ++ (record { board = w.0.board; labels = w.0.labels; preds = us } ∷ [])))
 
-pub record LineAdded (count v before : ℕ) (c : Columns) (fs : List (List ℕ)) (old : List ℕ) (r : LineAnswer) (new : List ℕ) : Type 0 where
+pub record LineAdded (count v before : ℕ) (c : Columns) (fs : List (List ℕ)) (old : List ℕ) (r : Result (StepValues × Links) Refusal) (new : List ℕ) : Type 0 where
   pub size : length new ≡ log_length
   pub limits : Limited v before r
   pub added : (xs : List Step) → length xs ≡ v → link_count xs ≡ before → old ≡ buffer_of xs → Added count v c fs xs r new

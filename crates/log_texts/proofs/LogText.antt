@@ -11,7 +11,6 @@ use lib.Pow.{pow_mono}
 use lib.ListN.{length, get_or, length-append}
 use Rattle.text.specs.Split.{split, joined, line_from}
 use Rattle.text.specs.Lines.{TextLine, lines_of, printable, whole}
-use Rattle.fields.specs.Fields.{same_bytes}
 use Rattle.numbers.specs.Numbers.{is_number, value_of, largest, spell}
 use Rattle.text.specs.Walk.{Judged, passed, accepted, proceed, walk, read_text}
 use Rattle.text.proofs.WalkLaws.{size_right}
@@ -142,7 +141,7 @@ unfolding printable
 names_printable = (refl, (refl, (refl, (refl, tt))))
 
 header_judged : (count : ℕ) (k : Known) → judge_line count k 1 (record { bytes = joined 32 names; newline = true }) ≡ passed (known [])
-unfolding split joined printable place_of same_bytes
+unfolding split joined printable place_of
 header_judged count k = refl
 
 header_length : length header_line ≡ 26

@@ -1,34 +1,33 @@
 -- The reader's loop over the lines below the header: what is known so far, and each way out.
 -- Assumes nothing.
-use mathlib.Core.Path.{◌≡◌, refl, sym, ap, ap₂, ◌∙◌, subst}
+use mathlib.Core.Path.{◌≡◌, refl, sym, ap, ◌∙◌, subst}
 use mathlib.Core.Bool.{true, false}
 use mathlib.Core.List.{List, [], ◌∷◌, ◌++◌}
-use Prim.Native.Nat.{ℕ, ◌+◌, ◌-◌, ◌^◌, ◌≤◌, ◌<◌}
+use Prim.Native.Nat.{ℕ, ◌+◌, ◌-◌, ◌≤◌, ◌<◌}
 use native.Mathlib.Omega.{arith}
 use borrow.Author.Tests.{eq-eqb, ne_eqb}
 use lib.ListN.{length, take, drop, replicate, length-append}
-use Rattle.answer.specs.declared.Answer.{Answer}
+use lib.Seq.{length-take-le}
 use Rattle.answer.specs.Answers.{accepted_with, refused_at}
 use Rattle.text.specs.Split.{split}
 use Rattle.text.specs.Lines.{TextLine, lines_of, line_of, whole}
 use Rattle.text.specs.Walk.{refused, Outcome, accepted, faulty, walk}
 use Rattle.text.specs.declared.lines.LineFault.{LineFault}
-use Rattle.text.specs.declared.lines.Line.{Line}
-use Rattle.text.specs.declared.lines.Line.TheVariants.{Whole, Broken}
+use Rattle.std.specs.Prelude.{Result, Ok, Err}
 use Rattle.text.proofs.WalkLaws.{text_end, text_broken, text_refused, text_passed, lent_whole, walk_numbers}
 use Rattle.log_line.specs.Step.{Step, link_count}
 use Rattle.log_line.specs.Format.{Known, judge_step, judge_line, conclude}
 use Rattle.log_line.specs.Answers.{refusal_number, order_of}
-use Rattle.log_step.specs.Answers.{InLimits, Limited}
+use Rattle.log_step.specs.Limits.{InLimits}
+use Rattle.log_step.specs.Answers.{Limited}
 use Rattle.log_walk.specs.Reading.{steps_read}
 use Rattle.log_store.specs.Stores.{knowing, Added, LineAdded}
 use Rattle.log_store.specs.Buffer.{begins, links, buffer_of}
 use Rattle.log_walk.specs.Filled.{answer_of, filled_by}
 use Rattle.log_line.specs.declared.refusals.Refusal.{Refusal}
 use Rattle.log_line.specs.declared.header.ColumnOrder.{ColumnOrder}
+use Rattle.log_line.specs.declared.preds.Links.{Links}
 use Rattle.log_step.specs.declared.StepValues.{StepValues}
-use Rattle.log_step.specs.declared.LineAnswer.{LineAnswer}
-use Rattle.log_step.specs.declared.LineAnswer.TheVariants.{Values, Refused}
 use Rattle.log_store.proofs.BufferLaws.{count_more, count_end}
 
 -- Before the line at the place `at`, v steps with so many links are read, and they are in the buffer.
@@ -44,8 +43,15 @@ zeros : replicate {A = ℕ} 7170 0 ≡ buffer_of []
 unfolding begins links
 zeros = refl
 
-pub reading_none : (text : List ℕ) (start count : ℕ) (o : ColumnOrder) → Reading text start count o start 0 0 (replicate 7170 0)
-reading_none text start count o = record { known = []; ahead = refl; counted = refl; linked = count_end; stored = zeros }
+reading_start : (text : List ℕ) (start count : ℕ) (o : ColumnOrder) → Reading text start count o start 0 0 (replicate 7170 0)
+reading_start text start count o = record { known = []; ahead = refl; counted = refl; linked = count_end; stored = zeros }
+
+pub reading_none : (text : List ℕ) (start count : ℕ) (o : ColumnOrder) (v : ℕ) → v ≡ 0 → (edges : ℕ) → edges ≡ 0
+    → Reading text start count o start v edges (replicate 7170 0)
+reading_none text start count o v z edges y = rw (z, y) (reading_start text start count o)
+
+pub log_room : (log buffer : List ℕ) → 7170 ≤ length log → length buffer ≡ 7170 → length (take 7170 log) ≡ length buffer
+log_room log buffer h e = length-take-le 7170 log h ∙ sym e
 
 pub not_whole : (count : ℕ) (k : Known) (n : ℕ) (l : TextLine) → whole 240 l ≡ false → judge_line count k n l ≡ refused 21
 not_whole count k n l e = rw e
@@ -81,40 +87,40 @@ module _ (text : List ℕ) (start count : ℕ) (o : ColumnOrder) (at v edges : �
     ended : all ≡ accepted (knowing (order_of o) g.known)
     ended = text_end (judge_line count) (knowing (order_of o) g.known) (v + 2) text at all g.ahead end
 
-    pub none_answered : v ≡ 0 → (n : ℕ) → n ≡ 26 → (r : Answer) → r ≡ refused_at n 1 → r ≡ answer_of (steps_read count (order_of o) (drop start text))
-    none_answered z n m r q = q ∙ ap (λ (k : ℕ). refused_at k 1) m
-        ∙ sym (ap answer_of (steps_none count o (drop start text) g.known ended (g.counted ∙ z)))
+    pub none_answered : v ≡ 0 → refused_at 26 1 ≡ answer_of (steps_read count (order_of o) (drop start text))
+    none_answered z = sym (ap answer_of (steps_none count o (drop start text) g.known ended (g.counted ∙ z)))
 
     pub none_filled : v ≡ 0 → (log : List ℕ) → log ≡ filled_by (steps_read count (order_of o) (drop start text)) log
     none_filled z log = sym (ap (λ (k : Outcome Known). filled_by k log) (steps_none count o (drop start text) g.known ended (g.counted ∙ z)))
 
-    pub all_answered : (v ≡ 0 → ⊥) → (r : Answer) → r ≡ accepted_with v → r ≡ answer_of (steps_read count (order_of o) (drop start text))
-    all_answered z r q =
-        q ∙ ap accepted_with (sym g.counted) ∙ sym
+    pub all_answered : (v ≡ 0 → ⊥) → accepted_with v ≡ answer_of (steps_read count (order_of o) (drop start text))
+    all_answered z =
+        ap accepted_with (sym g.counted) ∙ sym
         (ap answer_of (steps_all count o (drop start text) g.known ended (λ e. z (sym g.counted ∙ e))))
 
-    pub all_filled : (v ≡ 0 → ⊥) → length buffer ≡ 7170 → (log exit : List ℕ) → exit ≡ buffer ++ drop (length buffer) log
-        → exit ≡ filled_by (steps_read count (order_of o) (drop start text)) log
-    all_filled z s log exit q =
-        q ∙ ap₂ (λ (b : List ℕ) (n : ℕ). b ++ drop n log) g.stored s
+    pub all_filled : (v ≡ 0 → ⊥) → (log front : List ℕ) → front ≡ buffer → front ++ drop 7170 log ≡ filled_by (steps_read count (order_of o) (drop start text)) log
+    all_filled z log front e =
+        ap (λ (b : List ℕ). b ++ drop 7170 log) (e ∙ g.stored)
         ∙ sym (ap (λ (k : Outcome Known). filled_by k log) (steps_all count o (drop start text) g.known ended (λ e. z (sym g.counted ∙ e))))
 
   -- ---- a line
 
-  module _ (r : Line) (given : r ≡ line_of 240 (take (length text - at) (drop at text))) where
-    module _ (h : at < length text) (f : LineFault) (p : r ≡ Broken f) where
+  module _ (r : Result ℕ LineFault) (given : r ≡ line_of 240 (take (length text - at) (drop at text))) where
+    module _ (h : at < length text) (f : LineFault) (p : r ≡ Err f) where
       broken : all ≡ faulty 21 (v + 2)
       broken = text_broken (judge_line count) (knowing (order_of o) g.known) (v + 2) text at all g.ahead 240 r given 21 (not_whole count) h f p
 
-      pub broken_answered : (n : ℕ) → n ≡ 21 → (a : Answer) → a ≡ refused_at n (v + 2) → a ≡ answer_of (steps_read count (order_of o) (drop start text))
-      broken_answered n m a q = q ∙ ap (λ (k : ℕ). refused_at k (v + 2)) m
-          ∙ sym (ap answer_of (steps_fault count o (drop start text) 21 (v + 2) broken))
+      pub broken_answered : refused_at 21 (v + 2) ≡ answer_of (steps_read count (order_of o) (drop start text))
+      broken_answered = sym (ap answer_of (steps_fault count o (drop start text) 21 (v + 2) broken))
 
       pub broken_filled : (log : List ℕ) → log ≡ filled_by (steps_read count (order_of o) (drop start text)) log
       broken_filled log = sym (ap (λ (k : Outcome Known). filled_by k log) (steps_fault count o (drop start text) 21 (v + 2) broken))
 
-    module _ (e : ℕ) (p : r ≡ Whole e) (a : LineAnswer) (new : List ℕ)
-        (d : LineAdded count v edges (order_of o) (split 32 (take (at + e - at) (drop at text))) buffer a new) where
+    module _ (e : ℕ) (p : r ≡ Ok e) (a : Result (StepValues × Links) Refusal) (new : List ℕ) (m : ℕ) (same : m ≡ count)
+        (added : LineAdded m v edges (order_of o) (split 32 (take (at + e - at) (drop at text))) buffer a new) where
+      d : LineAdded count v edges (order_of o) (split 32 (take (at + e - at) (drop at text))) buffer a new
+      d = subst (λ (k : ℕ). LineAdded k v edges (order_of o) (split 32 (take (at + e - at) (drop at text))) buffer a new) same added
+
       judged : judge_line count (knowing (order_of o) g.known) (v + 2) (record { bytes = take (at + e - at) (drop at text); newline = true })
           ≡ judge_step count (knowing (order_of o) g.known) (v + 2) (split 32 (take (at + e - at) (drop at text)))
       judged =
@@ -124,56 +130,56 @@ module _ (text : List ℕ) (start count : ℕ) (o : ColumnOrder) (at v edges : �
       outcome : Added count v (order_of o) (split 32 (take (at + e - at) (drop at text))) g.known a new
       outcome = d.added g.known g.counted g.linked g.stored
 
-      module _ (f : Refusal) (q : a ≡ Refused f) where
+      module _ (f : Refusal) (q : a ≡ Err f) where
         refusing : all ≡ faulty (refusal_number f) (v + 2)
         refusing =
             text_refused (judge_line count) (knowing (order_of o) g.known) (v + 2) text at all g.ahead 240 r given e p (refusal_number f)
-            (judged ∙ subst (λ (b : LineAnswer). Added count v (order_of o) (split 32 (take (at + e - at) (drop at text))) g.known b new) q outcome)
+            (judged ∙ subst (λ (b : Result (StepValues × Links) Refusal). Added count v (order_of o) (split 32 (take (at + e - at) (drop at text))) g.known b new) q outcome)
 
-        pub refused_answered : (n : ℕ) → n ≡ refusal_number f → (x : Answer) → x ≡ refused_at n (v + 2)
-            → x ≡ answer_of (steps_read count (order_of o) (drop start text))
-        refused_answered n m x y =
-            y ∙ ap (λ (k : ℕ). refused_at k (v + 2)) m ∙ sym (ap answer_of (steps_fault count o (drop start text) (refusal_number f) (v + 2) refusing))
+        pub refused_answered : refused_at (refusal_number f) (v + 2) ≡ answer_of (steps_read count (order_of o) (drop start text))
+        refused_answered =
+            sym (ap answer_of (steps_fault count o (drop start text) (refusal_number f) (v + 2) refusing))
 
         pub refused_filled : (log : List ℕ) → log ≡ filled_by (steps_read count (order_of o) (drop start text)) log
         refused_filled log = sym (ap (λ (k : Outcome Known). filled_by k log) (steps_fault count o (drop start text) (refusal_number f) (v + 2) refusing))
 
-      module _ (w : StepValues) (q : a ≡ Values w) where
-        values_limits : InLimits w.count v edges
-        values_limits = subst (Limited v edges) q d.limits
+      module _ (w : StepValues × Links) (q : a ≡ Ok w) where
+        pub values_limits : InLimits w.1.count v edges
+        values_limits = (subst (Limited v edges) q d.limits).1
 
         pub step_more : v + 1 ≤ 1024
         step_more = let h = values_limits.step in omega arith
 
-        pub links_more : edges + w.count ≤ 4096
+        pub links_more : edges + w.1.count ≤ 4096
         links_more = values_limits.all
 
-        pub links_fit : edges + w.count < 2 ^ 16
-        links_fit = let h = values_limits.all in omega arith
-
-        pub reading_more : Reading text start count o (at + e + 1) (v + 1) (edges + w.count) new
-        reading_more = go (subst (λ (b : LineAnswer). Added count v (order_of o) (split 32 (take (at + e - at) (drop at text))) g.known b new) q outcome)
+        read_on : Reading text start count o (at + e + 1) (v + 1) (edges + w.1.count) new
+        read_on = go (subst (λ (b : Result (StepValues × Links) Refusal). Added count v (order_of o) (split 32 (take (at + e - at) (drop at text))) g.known b new) q outcome)
           where
-            go : Added count v (order_of o) (split 32 (take (at + e - at) (drop at text))) g.known (Values w) new
-                → Reading text start count o (at + e + 1) (v + 1) (edges + w.count) new
+            go : Added count v (order_of o) (split 32 (take (at + e - at) (drop at text))) g.known (Ok w) new
+                → Reading text start count o (at + e + 1) (v + 1) (edges + w.1.count) new
             go (us, size, passes, stored) =
-                let x : Step = record { board = w.board; labels = w.labels; preds = us } in
+                let x : Step = record { board = w.0.board; labels = w.0.labels; preds = us } in
                 let n : v + 2 + 1 ≡ v + 1 + 2 = omega arith in
                 record {
-                  known = g.known ++ (record { board = w.board; labels = w.labels; preds = us } ∷ []);
+                  known = g.known ++ (record { board = w.0.board; labels = w.0.labels; preds = us } ∷ []);
                   ahead =
                       text_passed (judge_line count) (knowing (order_of o) g.known) (v + 2) text at all g.ahead 240 r given e p
-                      (knowing (order_of o) (g.known ++ (record { board = w.board; labels = w.labels; preds = us } ∷ []))) (judged ∙ passes)
-                      ∙ ap (λ (n : ℕ). walk (judge_line count) (knowing (order_of o) (g.known ++ (record { board = w.board; labels = w.labels; preds = us } ∷ []))) n
+                      (knowing (order_of o) (g.known ++ (record { board = w.0.board; labels = w.0.labels; preds = us } ∷ []))) (judged ∙ passes)
+                      ∙ ap (λ (n : ℕ). walk (judge_line count) (knowing (order_of o) (g.known ++ (record { board = w.0.board; labels = w.0.labels; preds = us } ∷ []))) n
                       (lines_of (drop (at + e + 1) text))) n;
-                  counted = length-append g.known (record { board = w.board; labels = w.labels; preds = us } ∷ [])
+                  counted = length-append g.known (record { board = w.0.board; labels = w.0.labels; preds = us } ∷ [])
                       ∙ (let c = g.counted in omega arith);
-                  linked = count_more g.known (record { board = w.board; labels = w.labels; preds = us }) ∙ (let c = g.linked in omega arith);
+                  linked = count_more g.known (record { board = w.0.board; labels = w.0.labels; preds = us }) ∙ (let c = g.linked in omega arith);
                   stored = stored;
                 }
 
+        pub reading_more : (v' : ℕ) → v' ≡ v + 1 → (edges' : ℕ) → edges' ≡ edges + w.1.count → Reading text start count o (at + e + 1) v' edges' new
+        reading_more v' p edges' q' = rw (p, q') read_on
+
 pub ruleset reading_kit = (
   reading_none,
+  log_room,
   none_answered,
   none_filled,
   all_answered,
@@ -182,9 +188,9 @@ pub ruleset reading_kit = (
   broken_filled,
   refused_answered,
   refused_filled,
+  values_limits,
   step_more,
   links_more,
-  links_fit,
   reading_more,
   walk_numbers,
 )

@@ -16,6 +16,8 @@ use Rattle.log_texts.specs.Spelled.{steps_of, text_of}
 use Rattle.log_texts.proofs.LogBuffers.{text_says}
 use Rattle.log_texts.proofs.LogText.{known}
 use Rattle.log_layout.specs.Tested.{Tested}
+use Rattle.answer.proofs.FaultSteps.{fault_steps}
+use Rattle.writing.proofs.PutLaws.{laid_in_front}
 
 -- An accepted text is no longer than the format allows.
 accepted_fits : (count : ℕ) (text : List ℕ) (k : Known) → log_text count text ≡ accepted k → length text ≤ most_log_text
@@ -30,3 +32,6 @@ accepted_fits count text k e = go (eqb (length text) 0) (ltb most_log_text (leng
 
 pub text_fits : (log : List ℕ) → Tested log → length (text_of log) ≤ most_log_text
 text_fits log t = accepted_fits t.count (text_of log) (known (steps_of log)) (text_says t.count log t.fit t.log_passes)
+
+-- What the calls to the writer are proved by: its refusals, that the text's length fits, and that the text stands in front.
+pub ruleset text_kit = (fault_steps, text_fits, laid_in_front)

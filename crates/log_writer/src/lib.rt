@@ -19,25 +19,26 @@ fn measure(log: &[u16]) -> usize
 }
 
 // Tests 7 and 8, and the text, for a log buffer of its documented length.
+#[tactic(auto, using(crate::proofs::Fits::text_kit))]
 fn write_fit(log: &[u16], labels: u16, text: &mut [u8]) -> Answer
     requires { labels ≤ 16 }
     ensures value { result ≡ fit_answer log.now labels text.old }
     ensures text_after { text.new ≡ fit_after log.now labels text.old }
 {
-    let fits = log_test::is_log(log, labels);
-    if fits {
-        let n = measure(log);
-        if text.len() < n {
-            return answer::refused(8, 0);
-        }
-        lay_log(text, log);
-        return answer::accepted(n as u16);
+    if !log_test::is_log(log, labels) {
+        return answer::refused(7, 0);
     }
-    answer::refused(7, 0)
+    let n = measure(log);
+    if text.len() < n {
+        return answer::refused(8, 0);
+    }
+    lay_log(text, log);
+    answer::accepted(n as u16)
 }
 
 // Writes a log buffer of 7,170 numbers, which passes its test under the label count, as a text. Accepted, the text stands in front of the
 // text buffer and the answer counts its bytes; refused, the text buffer is as it was.
+#[tactic(auto, using(answer::proofs::FaultSteps::fault_steps))]
 pub fn write_log(log: &[u16], labels: u16, text: &mut [u8]) -> Answer
     ensures value { result ≡ write_answer log.now labels text.old }
     ensures text_after { text.new ≡ text_after log.now labels text.old }
@@ -45,10 +46,7 @@ pub fn write_log(log: &[u16], labels: u16, text: &mut [u8]) -> Answer
     if log.len() < layout::LOG_LENGTH {
         return answer::refused(1, 0);
     }
-    if labels < 1 {
-        return answer::refused(5, 0);
-    }
-    if labels > 16 {
+    if !(1..=16).contains(&labels) {
         return answer::refused(5, 0);
     }
     write_fit(&log[..layout::LOG_LENGTH], labels, text)

@@ -9,67 +9,76 @@
 // uses, marks.
 #![tactic(auto)]
 
-use std::io;
+use answer::Answer;
+use settings::Settings;
 use std::rt::Files;
+use std::{fs, io};
+use text_room::{Case, Kind, Kinds, Writer, try_writer};
+use trial::column;
 
-mod calls;
-mod lend;
-mod written;
+const OTHER_COUNT: Kind = Kind::Own(0);
 
-const OTHER_COUNT: usize = 15;
+// The log writer with its label count, with which the log is read back too.
+#[derive(Clone, Copy)]
+struct LogWriter {
+    labels: u16,
+}
+
+impl Writer for LogWriter {
+    const LENT: char = 'L';
+
+    const USED: usize = 7170;
+
+    fn write(&self, room: &[u16], text: &mut [u8]) -> Answer {
+        log_writer::write_log(room, self.labels, text)
+    }
+
+    fn read(&self, text: &[u8], room: &mut [u16]) -> Answer {
+        log_reader::read_log(text, self.labels, room)
+    }
+
+    fn header(&self) -> &[u8] {
+        &[]
+    }
+
+    fn print_kept(rt: &impl Print, room_kept: bool, _: bool) -> io::Result<()> {
+        outcome::print_claim(rt, "; log kept", room_kept)
+    }
+}
 
 fn main(rt: HostRuntime) -> io::Result<()> {
-    let mut kinds = [0u64; 16];
-    try_file(&rt, b"cases.txt", &mut kinds)?;
-    try_file(&rt, b"texts.txt", &mut kinds)?;
-    text_room::print_kinds(&rt, &kinds)
-}
-
-fn try_file(rt: &(impl Files + Print), path: &[u8], kinds: &mut [u64]) -> io::Result<()> {
-    let mut file = [0u8; 65536];
-    let n = trial::load(rt, path, &mut file);
-    try_cases(rt, &file[..n], kinds)
-}
-
-fn try_cases(rt: &(impl Files + Print), file: &[u8], kinds: &mut [u64]) -> io::Result<()> {
-    let mut at = 0;
-    while at < file.len() {
-        let end = trial::find_byte(file, at, b'\n');
-        try_case(rt, trial::part(file, at, end), kinds)?;
-        at = end + 1;
+    let mut kinds = Kinds::new();
+    for path in ["cases.txt", "texts.txt"] {
+        let file = fs::read_to_string(&rt, path)?;
+        for line in file.lines() {
+            try_case(&rt, line, &mut kinds)?;
+        }
     }
-    Ok(())
+    kinds.print(&rt)
 }
 
-fn try_case(rt: &(impl Files + Print), line: &[u8], kinds: &mut [u64]) -> io::Result<()> {
-    let mut text = [0u8; 66000];
-    let n = script::load(rt, trial::column(line, 2), b"log.txt", &mut text);
-    read_text(rt, line, &text[..n], kinds)
-}
-
-// A text that the reader refuses gives no room.
-fn read_text(rt: &impl Print, line: &[u8], text: &[u8], kinds: &mut [u64]) -> io::Result<()> {
-    let mut log = [0u16; 7176];
-    outcome::mark(&mut log);
-    let labels = trial::small_number(trial::column(line, 1));
-    let a = calls::read_log(text, labels, &mut log);
-    if a.number > 0 {
-        text_room::count_unread(kinds);
+fn try_case(
+    rt: &(impl Files + Print + AllocGlobal),
+    line: &str,
+    kinds: &mut Kinds,
+) -> io::Result<()> {
+    let settings = Settings::new(column(line, 3));
+    let text = script::load(rt, column(line, 2), "log.txt", 66000)?;
+    let labels = column(line, 1).parse().unwrap_or(0);
+    let mut log = outcome::marked(rt.alloc(), 7176)?;
+    if log_reader::read_log(&text, labels, &mut log).number > 0 {
+        kinds.add(Kind::Unread);
         return Ok(());
     }
-    text_room::change(trial::column(line, 3), b'l', &mut log, kinds);
-    write(rt, line, text, labels, &log, kinds)
-}
+    kinds.change(settings, 'l', &mut log);
 
-fn write(
-    rt: &impl Print,
-    line: &[u8],
-    text: &[u8],
-    labels: u16,
-    log: &[u16],
-    kinds: &mut [u64],
-) -> io::Result<()> {
-    let handed = settings::value(trial::column(line, 3), b'c', labels);
-    tallies::add_if(kinds, OTHER_COUNT, handed != labels);
-    written::try_write(rt, line, text, handed, log, kinds)
+    let handed = settings.value('c').unwrap_or(labels);
+    kinds.add_if(OTHER_COUNT, handed != labels);
+    let case = Case {
+        name: column(line, 0),
+        settings,
+        text: &text,
+        room: &log,
+    };
+    try_writer(rt, &case, &LogWriter { labels: handed }, kinds)
 }

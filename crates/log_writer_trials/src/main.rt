@@ -1,17 +1,15 @@
 // Random log rooms: what the writer writes is read, and the numbers compared; a byte of it is changed, and the reader's refusal
 // compared; then one number is changed, and the room is refused or gives another text. It prints what was tried and how much of each
-// kind; `names.txt` has the names of the counts.
+// kind.
 #![tactic(auto)]
 
+use room::WrittenLog;
 use std::io;
+use writer_trials::Counts;
 
-mod changed;
-mod rooms;
+mod room;
 
 fn main(rt: HostRuntime) -> io::Result<()> {
-    let mut names = [0u8; 1024];
-    let mut counts = [0u64; 20];
-    let n = trial::load(&rt, b"names.txt", &mut names);
-    rooms::try_rooms(2000, &mut counts);
-    tallies::print_counts(&rt, &names[..n], &counts)
+    let counts = Counts::of_rooms::<WrittenLog>(rt.alloc(), 2000, 4)?;
+    counts.print::<WrittenLog>(&rt)
 }

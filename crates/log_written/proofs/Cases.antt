@@ -13,7 +13,6 @@ use Rattle.answer.specs.Faults.{first_fault, answer_or}
 use Rattle.text.specs.Split.{joined, split}
 use Rattle.text.specs.Lines.{as_lines, printable}
 use Rattle.text.specs.Walk.{accepted, walk}
-use Rattle.fields.specs.Fields.{same_bytes}
 use Rattle.numbers.specs.Numbers.{spell_in, digits, value_from, decimal}
 use Rattle.numbers.specs.Listed.{are_numbers}
 use Rattle.layout.specs.Layout.{log_length}
@@ -56,7 +55,7 @@ unfolding three_steps begins links
 three_whole = refl
 
 three_says : log_text 16 (text_of three_steps) ≡ accepted (known steps)
-unfolding three_steps begins links steps_up_to step_lines joined spell_in walk as_lines split printable same_bytes digits value_from decimal place_of are_numbers rising_below link_count
+unfolding three_steps begins links steps_up_to step_lines joined spell_in walk as_lines split printable digits value_from decimal place_of are_numbers rising_below link_count
 three_says = refl
 
 -- `vertex board labels preds`, `0 0 0 -`, `1 7 40000 0`, `2 255 5 0,1`

@@ -1,6 +1,6 @@
 -- What an accepted call wrote: its length fits 16 bits, reading it gives the log buffer back, and two buffers that differ give two texts.
 -- Assumes nothing.
-use Prim.Native.Nat.{ℕ, ◌+◌, ◌^◌, ◌≤◌, max}
+use Prim.Native.Nat.{ℕ, ◌^◌, ◌≤◌, max}
 use mathlib.Core.Path.{◌≡◌, refl, sym, ap, ◌∙◌, subst}
 use mathlib.Core.Bool.{Bool, true, false, not, ◌||◌}
 use mathlib.Core.List.{List, ◌++◌}
@@ -18,7 +18,7 @@ use Rattle.layout.specs.Layout.{most_labels, log_length}
 use Rattle.log_line.specs.Format.{Known, log_text}
 use Rattle.log_store.specs.Buffer.{buffer_of}
 use Rattle.log_walk.specs.Filled.{filled_by}
-use Rattle.log_reader.specs.Answer.{host_faults, text_answer, log_answer, log_after}
+use Rattle.log_reader.specs.Answer.{host_faults, text_answer}
 use Rattle.log_buffer.specs.Valid.{is_log}
 use Rattle.log_buffer.proofs.Sound.{sound_iff}
 use Rattle.log_texts.specs.Spelled.{steps_of}

@@ -2,13 +2,17 @@
 use Prim.Native.Nat.{ℕ, ◌+◌, ◌-◌, ◌≤◌, ◌<◌}
 use mathlib.Core.Path.{◌≡◌, refl, sym, ap, ◌∙◌}
 use mathlib.Core.Bool.{Bool, true, false, cond, not, ◌&&◌, ◌||◌, and-true, and-false, or-false}
-use mathlib.Core.List.{List}
+use mathlib.Core.List.{List, reverse}
 use native.Mathlib.Decide.{ℕ_discrete, dec_lt}
 use native.Mathlib.Omega.{arith}
 use borrow.Author.Tests.{lt-ltb, le-ltb, le-leb, lt-leb, ne_eqb}
 use lib.Dec.{ltb, leb, eqb}
-use lib.ListN.{length, get_or, set}
-use lib.Seq.{get_or-set_same, get_or-set_other}
+use lib.ListN.{length, get_or, set, take, drop, length-take, length-drop}
+use lib.Seq.{get_or-set_same, get_or-set_other, get_or-take, get_or-drop}
+use Rattle.std.specs.List.{list_all}
+use Rattle.std.proofs.lemmas.List.Folds.{list_all_at}
+use Rattle.std.proofs.lemmas.List.{get_or-reverse, length-reverse}
+use Rattle.std.proofs.Math.Nat.{min-eq_left}
 use Rattle.sets.proofs.Truth.{or_none}
 use Rattle.sets.specs.Sets.{member, singleton, union}
 use Rattle.sets.proofs.Laws.{member_union, member-singleton, union_below}
@@ -120,28 +124,33 @@ pub ruleset reached_kit = (added_first, added_end, added_more)
 
 -- ---- every vertex from u on has the bead
 
--- The vertices from v on have it.
-pub record MarkedFrom (k v m : ℕ) (prefixes : List ℕ) : Type 0 where
-  pub marked : (w : ℕ) → v ≤ w → w < m → member k (get_or prefixes w 0) ≡ true
+all_at : (f : ℕ → Bool) (l : List ℕ) → list_all f l ≡ true → (i : ℕ) → i < length l → f (get_or l i 0) ≡ true
+all_at f l e i h = go (f (get_or l i 0)) refl
+  where
+    go : (b : Bool) → f (get_or l i 0) ≡ b → f (get_or l i 0) ≡ true
+    go true z = z
+    go false z = let n : true ≡ false = sym e ∙ list_all_at f l i 0 h z in cc
 
-pub from_none : (k m : ℕ) (prefixes : List ℕ) → MarkedFrom k m m prefixes
-from_none k m prefixes = record { marked = λ w h l. absurd (omega arith) }
+-- the numbers from a on and below b, looked at from the last one down
+pub reversed_all : (f : ℕ → Bool) (a b : ℕ) (l : List ℕ) → (a ≤ b) × (b ≤ length l) → list_all f (reverse (take (b - a) (drop a l))) ≡ true
+    → (v : ℕ) → a ≤ v → v < b → f (get_or l v 0) ≡ true
+reversed_all f a b l inside y v h k =
+    let w : b - a - 1 - (v - a) < length part = omega (arith, size) in
+    let there = all_at f (reverse part) y (b - a - 1 - (v - a)) (rw (length-reverse part) w) in
+    let back : get_or (reverse part) (b - a - 1 - (v - a)) 0 ≡ get_or l v 0 =
+    get_or-reverse part (b - a - 1 - (v - a)) 0 w ∙ ap (λ (i : ℕ). get_or part i 0) (omega (arith, size))
+    ∙ get_or-take (b - a) (drop a l) (v - a) 0 (omega arith) ∙ get_or-drop a l (v - a) 0 ∙ ap (λ (i : ℕ). get_or l i 0) (omega arith) in
+    ap f (sym back) ∙ there
+  where
+    part : List ℕ
+    part = take (b - a) (drop a l)
 
-module _ (k u m v : ℕ) (prefixes : List ℕ) (inv : MarkedFrom k v m prefixes) where
-  pub from_lacks : AllMarked k u m prefixes false
-  from_lacks = record { marked = λ e. let z : ◌≡◌ {A = ℕ} 0 1 = cc in absurd (omega arith) }
+    size : length part ≡ b - a
+    size = length-take (b - a) (drop a l) ∙ rw (length-drop a l) (min-eq_left (omega arith))
 
-  pub from_more : u < v → (t : Bool) → t ≡ member k (get_or prefixes (v - 1) 0) → t ≡ true → MarkedFrom k (v - 1) m prefixes
-  from_more p t e y = record { marked = λ w h l. go w h l (ℕ_discrete w (v - 1)) }
-    where
-      go : (w : ℕ) → v - 1 ≤ w → w < m → Dec (w ≡ v - 1) → member k (get_or prefixes w 0) ≡ true
-      go w h l (yes z) = rw z (sym e ∙ y)
-      go w h l (no n) = inv.marked w (omega arith) l
-
-  pub from_all : v ≤ u → AllMarked k u m prefixes true
-  from_all h = record { marked = λ e w l r. inv.marked w (omega arith) r }
-
-pub ruleset from_kit = (from_none, from_lacks, from_more, from_all)
+pub all_have : (k u m : ℕ) (prefixes : List ℕ) (r : Bool) → r ≡ list_all (member k) (reverse (take (m - u) (drop u prefixes))) → (u ≤ m) × (m ≤ length prefixes)
+    → AllMarked k u m prefixes r
+all_have k u m prefixes r e inside = record { marked = λ y v h l. reversed_all (member k) u m prefixes inside (sym e ∙ y) v h l }
 
 -- then nothing is left to add
 pub added_all : (f : ℕ → Bool) (k u m : ℕ) (old : List ℕ) (r : Bool) → AllMarked k u m old r → r ≡ true → Added f k u m old old

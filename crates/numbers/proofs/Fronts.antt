@@ -1,20 +1,17 @@
 -- The fronts of a field: up to where its bytes are a number, and after which byte no number can follow.
 -- Assumes nothing.
 use mathlib.Core.Path.{◌≡◌, refl, sym, ap, ◌∙◌, subst}
-use mathlib.Core.Bool.{Bool, true, false, not, cond, ◌&&◌}
-use mathlib.Core.List.{List, [], ◌∷◌, ◌++◌, append-nil, append_assoc}
-use mathlib.Core.Option.{Option, none, some}
+use mathlib.Core.Bool.{Bool, true, false, not, ◌&&◌}
+use mathlib.Core.List.{List, [], ◌∷◌, ◌++◌, append-nil}
+use Rattle.std.specs.Prelude.{Option, Some, None, is_some, Ok, Err}
 use Prim.Native.Nat.{ℕ, zero, suc, ◌+◌, ◌-◌, ◌*◌, ◌≤◌, ◌<◌}
 use native.Mathlib.Omega.{arith}
 use native.Mathlib.Nat.{le_refl}
 use borrow.Author.Tests.{le-leb, lt-leb, ne_eqb, ltb-true, ltb-false}
 use lib.Dec.{T, leb, ltb}
 use lib.ListN.{length, take, length-append}
-use Rattle.lists.specs.Leftmost.{leftmost}
 use Rattle.lists.proofs.LeftmostLaws.{NoneBelow, leftmost_is, leftmost_none}
-use Rattle.numbers.specs.Numbers.{digit, digits, value_from, plain, decimal, is_some, stop_of, read_answer, end_of, spell}
-use Rattle.numbers.specs.declared.NumberRead.{NumberRead}
-use Rattle.numbers.specs.declared.NumberRead.TheVariants.{Ended, Stopped}
+use Rattle.numbers.specs.Numbers.{digit, digits, value_from, plain, decimal, stop_of, read_answer, end_of}
 use Rattle.numbers.proofs.Spelling.{decimal_out, one_spelling, spell_digit}
 
 -- ---- bytes behind others
@@ -57,17 +54,17 @@ take_whole [] = refl
 take_whole (x ∷ xs) = ap (λ (l : List ℕ). x ∷ l) (take_whole xs)
 
 module _ (most : ℕ) where
-  decimal_none : (bs : List ℕ) → (plain bs && digits bs && leb (value_from 0 bs) most) ≡ false → decimal most bs ≡ none
+  decimal_none : (bs : List ℕ) → (plain bs && digits bs && leb (value_from 0 bs) most) ≡ false → decimal most bs ≡ None
   unfolding decimal
   decimal_none bs e = rw e
 
-  decimal_some : (bs : List ℕ) → plain bs ≡ true → digits bs ≡ true → value_from 0 bs ≤ most → decimal most bs ≡ some (value_from 0 bs)
+  decimal_some : (bs : List ℕ) → plain bs ≡ true → digits bs ≡ true → value_from 0 bs ≤ most → decimal most bs ≡ Some (value_from 0 bs)
   unfolding decimal
   decimal_some bs p d h = rw (p, d, le-leb (value_from 0 bs) most h)
 
-  pub some_of : (o : Option ℕ) → is_some o ≡ true → (n : ℕ) × (o ≡ some n)
-  some_of none e = let z : ◌≡◌ {A = ℕ} 0 1 = cc in absurd (omega arith)
-  some_of (some n) e = (n, refl)
+  pub some_of : (o : Option ℕ) → is_some o ≡ true → (n : ℕ) × (o ≡ Some n)
+  some_of None e = let z : ◌≡◌ {A = ℕ} 0 1 = cc in absurd (omega arith)
+  some_of (Some n) e = (n, refl)
 
   -- ---- the fronts read so far: each is a number
 
@@ -78,11 +75,11 @@ module _ (most : ℕ) where
   fronts_none = record { number = λ j h. absurd (omega arith) }
 
   -- Bytes that have been read are a number, unless there is none.
-  whole : (x : ℕ) (xs : List ℕ) → Fronts (x ∷ xs) → decimal most (x ∷ xs) ≡ some (value_from 0 (x ∷ xs))
+  whole : (x : ℕ) (xs : List ℕ) → Fronts (x ∷ xs) → decimal most (x ∷ xs) ≡ Some (value_from 0 (x ∷ xs))
   whole x xs f =
       let s = some_of (decimal most (x ∷ xs)) (ap (λ (l : List ℕ). is_some (decimal most l)) (sym (take_whole (x ∷ xs))) ∙ f.number (length xs) (omega arith)) in
       let d = decimal_out most (x ∷ xs) s.0 s.1 in
-      s.1 ∙ ap (λ (n : ℕ). some n) (sym d.2)
+      s.1 ∙ ap (λ (n : ℕ). Some n) (sym d.2)
 
   digits_of : (q : List ℕ) → Fronts q → digits q ≡ true
   unfolding digits
@@ -110,7 +107,7 @@ module _ (most : ℕ) where
   -- ---- a byte after which no number can follow
 
   pub record Stops (q : List ℕ) (b : ℕ) : Type 0 where
-    pub none_follows : (rest : List ℕ) → decimal most (q ++ (b ∷ rest)) ≡ none
+    pub none_follows : (rest : List ℕ) → decimal most (q ++ (b ∷ rest)) ≡ None
 
   module _ (q : List ℕ) (b : ℕ) (f : Fronts q) where
     digits_here : (rest : List ℕ) → digits (q ++ (b ∷ rest)) ≡ (digit b && digits rest)
@@ -145,7 +142,7 @@ module _ (most : ℕ) where
             → (plain (q' ++ (b ∷ rest)) && digits (q' ++ (b ∷ rest)) && leb (value_from 0 (q' ++ (b ∷ rest))) most) ≡ false
         go rest [] g z h = absurd (omega arith)
         go rest (x ∷ xs) g z h =
-            let e : x ∷ xs ≡ 48 ∷ [] = one_spelling most (x ∷ xs) 0 (whole x xs g ∙ ap (λ (n : ℕ). some n) z) ∙ spell_digit 0 (omega arith) in
+            let e : x ∷ xs ≡ 48 ∷ [] = one_spelling most (x ∷ xs) 0 (whole x xs g ∙ ap (λ (n : ℕ). Some n) z) ∙ spell_digit 0 (omega arith) in
             ap (λ (l : List ℕ). plain (l ++ (b ∷ rest)) && digits (l ++ (b ∷ rest)) && leb (value_from 0 (l ++ (b ∷ rest))) most) e
 
     pub goes_on : digit b ≡ true → (value_from 0 q ≡ 0 → length q ≡ 0) → value_from 0 q * 10 + (b - 48) ≤ most → Fronts (q ++ (b ∷ []))
@@ -173,8 +170,8 @@ module _ (most : ℕ) where
   none_before q rest f = record { none = λ j h. ap not (ap (λ (l : List ℕ). is_some (decimal most l)) (take_front q rest (suc j) (omega arith)) ∙ f.number j h) }
 
   pub stop_there : (q : List ℕ) (b : ℕ) (rest : List ℕ) → Fronts q → Stops q b
-      → read_answer (decimal most (q ++ (b ∷ rest))) (stop_of most (q ++ (b ∷ rest))) ≡ Stopped (length q)
-  stop_there q b rest f s = rw (s.none_follows rest) (ap Stopped (sym at))
+      → read_answer (decimal most (q ++ (b ∷ rest))) (stop_of most (q ++ (b ∷ rest))) ≡ Err (length q)
+  stop_there q b rest f s = rw (s.none_follows rest) (ap Err (sym at))
     where
       at : length q ≡ stop_of most (q ++ (b ∷ rest))
       at =
@@ -193,5 +190,5 @@ module _ (most : ℕ) where
           (length q') (omega arith) (omega arith)
 
       go : (q' : List ℕ) → Fronts q' → read_answer (decimal most q') (stop_of most q') ≡ end_of (length q') (value_from 0 q')
-      go [] g = ap Stopped (sym (at [] g))
-      go (x ∷ xs) g = rw (whole x xs g, ne_eqb (suc (length xs)) 0 (λ e. omega arith)) (ap (Ended (value_from 0 (x ∷ xs))) (sym (at (x ∷ xs) g)))
+      go [] g = ap Err (sym (at [] g))
+      go (x ∷ xs) g = rw (whole x xs g, ne_eqb (suc (length xs)) 0 (λ e. omega arith)) (ap (λ (k : ℕ). Ok (value_from 0 (x ∷ xs), k)) (sym (at (x ∷ xs) g)))

@@ -25,7 +25,6 @@ unfolding are_numbers
 are_numbers_first p ps = refl
 
 lacks_differs : (b : ℕ) (l : List ℕ) → Lacks b l → same_bytes l (b ∷ []) ≡ false
-unfolding same_bytes
 lacks_differs b [] f = refl
 lacks_differs b (x ∷ xs) f = simp (ne_eqb x b f.0)
 
@@ -38,12 +37,10 @@ word_parts : (n : ℕ) (ns : List ℕ) → split 44 (list_word (n ∷ ns)) ≡ m
 word_parts n ns = split_parts 44 (spell n) (map spell ns) (spells_lack 44 (n ∷ ns) (omega arith))
 
 pub word_list : (ns : List ℕ) → Under 65536 ns → is_list (list_word ns) ≡ true
-unfolding same_bytes
 word_list [] u = refl
 word_list (n ∷ ns) u = rw (not_none n ns, word_parts n ns) (spells_numbers (n ∷ ns) u)
 
 pub word_reads : (ns : List ℕ) → Under 65536 ns → list_of (list_word ns) ≡ ns
-unfolding same_bytes
 word_reads [] u = refl
 word_reads (n ∷ ns) u = rw (not_none n ns, word_parts n ns) (spells_values (n ∷ ns) u)
 

@@ -1,21 +1,18 @@
 -- Reading a number byte by byte, up to a separator: the loop's own recursion, and that it answers what is defined.
 -- Assumes nothing.
-use mathlib.Core.Path.{◌≡◌, refl, sym, ap, ◌∙◌, subst}
+use mathlib.Core.Path.{◌≡◌, refl, sym, ap, ◌∙◌}
 use mathlib.Core.Bool.{Bool, true, false, cond, ◌&&◌, ◌||◌}
 use mathlib.Core.List.{List, [], ◌∷◌, ◌++◌, append_assoc}
-use mathlib.Core.Option.{Option}
+use Rattle.std.specs.Prelude.{Result, Ok, Err}
 use Prim.Native.Nat.{ℕ, zero, suc, ◌+◌, ◌-◌, ◌*◌, ◌≤◌, ◌<◌}
 use native.Mathlib.Omega.{arith}
-use native.Mathlib.Numerals.{add-one}
 use borrow.Author.Tests.{le-leb, lt-leb, lt-ltb, le-ltb, eq-eqb, ne_eqb, eqb-true, eqb-false, ltb-true, ltb-false, leb-true, leb-false}
 use lib.Dec.{eqb, ltb, leb}
 use lib.ListN.{length, get_or, drop, drop_of_length-le, length-append}
 use Rattle.lists.proofs.Parts.{drop_step}
-use Rattle.text.specs.Split.{split, first_part}
+use Rattle.text.specs.Split.{first_part}
 use Rattle.fields.proofs.FieldLaws.{first_empty, first_at, first_on}
 use Rattle.numbers.specs.Numbers.{digit, value_from, decimal, largest, stop_of, read_answer, first_read, end_of}
-use Rattle.numbers.specs.declared.NumberRead.{NumberRead}
-use Rattle.numbers.specs.declared.NumberRead.TheVariants.{Ended, Stopped}
 use Rattle.numbers.proofs.Fronts.{Fronts, fronts_none, Stops, stops_digit, stops_large, stops_zero, goes_on, stop_there, stop_end, value_append}
 
 -- The value with one byte more, after so many bytes of this value; one over the largest where no number can follow.
@@ -24,10 +21,10 @@ next_value most size value b =
     cond (digit b && ((ltb 0 value || eqb size 0) && leb (value * 10 + (b - 48)) most)) (value * 10 + (b - 48)) (suc most)
 
 -- The answer where i bytes are read, digits of the value v, and the bytes are left.
-pub read_from : ℕ → ℕ → ℕ → ℕ → List ℕ → NumberRead
+pub read_from : ℕ → ℕ → ℕ → ℕ → List ℕ → Result (ℕ × ℕ) ℕ
 read_from most sep i v [] = end_of i v
 read_from most sep i v (b ∷ bs) =
-    cond (eqb b sep) (end_of i v) (cond (leb (next_value most i v b) most) (read_from most sep (i + 1) (next_value most i v b) bs) (Stopped i))
+    cond (eqb b sep) (end_of i v) (cond (leb (next_value most i v b) most) (read_from most sep (i + 1) (next_value most i v b) bs) (Err i))
 
 abbrev follows : ℕ → ℕ → ℕ → ℕ → Bool
 follows most i v b = digit b && ((ltb 0 v || eqb i 0) && leb (v * 10 + (b - 48)) most)
@@ -59,7 +56,7 @@ module _ (most sep : ℕ) where
   from_separator i v b bs e = rw (eq-eqb b sep e)
 
   module _ (i v b : ℕ) (bs : List ℕ) (n : b ≡ sep → ⊥) where
-    from_over : most < next_value most i v b → read_from most sep i v (b ∷ bs) ≡ Stopped i
+    from_over : most < next_value most i v b → read_from most sep i v (b ∷ bs) ≡ Err i
     unfolding read_from
     from_over h = rw (ne_eqb b sep n, lt-leb (next_value most i v b) most h)
 
@@ -67,7 +64,7 @@ module _ (most sep : ℕ) where
     unfolding read_from
     from_next h = rw (ne_eqb b sep n, le-leb (next_value most i v b) most h)
 
-    from_stop : follows most i v b ≡ false → read_from most sep i v (b ∷ bs) ≡ Stopped i
+    from_stop : follows most i v b ≡ false → read_from most sep i v (b ∷ bs) ≡ Err i
     from_stop e = from_over (let z = next_none most i v b e in omega arith)
 
     from_more : follows most i v b ≡ true → read_from most sep i v (b ∷ bs) ≡ read_from most sep (i + 1) (v * 10 + (b - 48)) bs
@@ -76,7 +73,7 @@ module _ (most sep : ℕ) where
         let h = next_fits most i v b e in
         from_next (omega arith) ∙ ap (λ (w : ℕ). read_from most sep (i + 1) w bs) z
 
-  abbrev answer_for : List ℕ → NumberRead
+  abbrev answer_for : List ℕ → Result (ℕ × ℕ) ℕ
   answer_for f = read_answer (decimal most f) (stop_of most f)
 
   value_next : (q : List ℕ) (b : ℕ) → value_from 0 (q ++ (b ∷ [])) ≡ value_from 0 q * 10 + (b - 48)
@@ -141,7 +138,7 @@ pub begin : (sep : ℕ) (l : List ℕ) → first_read sep l ≡ read_from larges
 unfolding first_read
 begin sep l = agrees largest sep l [] (fronts_none largest) ∙ rw begin_value refl
 
-pub none_left : (sep : ℕ) (l : List ℕ) → length l ≡ 0 → Stopped 0 ≡ first_read sep l
+pub none_left : (sep : ℕ) (l : List ℕ) → length l ≡ 0 → Err 0 ≡ first_read sep l
 none_left sep l e =
     sym (begin sep l ∙ ap (read_from largest sep 0 0) (drop_of_length-le l {i = 0} (omega arith)) ∙ from_none largest sep 0 0)
 
@@ -156,7 +153,7 @@ pub ruleset first_kit = (none_left, some_left)
 
 -- ---- a zero in front
 
-module _ (sep : ℕ) (l : List ℕ) (some : 0 < length l) (zero_first : get_or l 0 0 ≡ 48) (low : sep < 48) where
+module _ (sep : ℕ) (l : List ℕ) (Some : 0 < length l) (zero_first : get_or l 0 0 ≡ 48) (low : sep < 48) where
   zero_follows : follows largest 0 0 (get_or l 0 0) ≡ true
   zero_follows =
       let e = zero_first in
@@ -170,19 +167,19 @@ module _ (sep : ℕ) (l : List ℕ) (some : 0 < length l) (zero_first : get_or l
   behind_zero =
       let e = zero_first in
       let z : 0 * 10 + (get_or l 0 0 - 48) ≡ 0 = omega arith in
-      begin sep l ∙ ap (read_from largest sep 0 0) (drop_step l 0 some)
+      begin sep l ∙ ap (read_from largest sep 0 0) (drop_step l 0 Some)
       ∙ from_more largest sep 0 0 (get_or l 0 0) (drop 1 l) (λ q. absurd (omega arith)) zero_follows
       ∙ ap (λ (w : ℕ). read_from largest sep 1 w (drop 1 l)) z
 
-  one_read : end_of 1 0 ≡ Ended 0 1
+  one_read : end_of 1 0 ≡ Ok (0, 1)
   one_read = refl
 
-  pub zero_alone : length l ≡ 1 → Ended 0 1 ≡ first_read sep l
+  pub zero_alone : length l ≡ 1 → Ok (0, 1) ≡ first_read sep l
   zero_alone e = sym (behind_zero ∙ ap (read_from largest sep 1 0) (drop_of_length-le l {i = 1} (omega arith)) ∙ from_none largest sep 1 0 ∙ one_read)
 
   module _ (more : length l ≡ 1 → ⊥) where
     longer : 1 < length l
-    longer = beyond (length l) some more
+    longer = beyond (length l) Some more
       where
         beyond : (k : ℕ) → 0 < k → (k ≡ 1 → ⊥) → 1 < k
         beyond zero h c = absurd (omega arith)
@@ -192,18 +189,18 @@ module _ (sep : ℕ) (l : List ℕ) (some : 0 < length l) (zero_first : get_or l
     pub zero_longer : 1 < length l
     zero_longer = longer
 
-    pub zero_ended : get_or l 1 0 ≡ sep → Ended 0 1 ≡ first_read sep l
+    pub zero_ended : get_or l 1 0 ≡ sep → Ok (0, 1) ≡ first_read sep l
     zero_ended q =
         sym (behind_zero ∙ ap (read_from largest sep 1 0) (drop_step l 1 longer) ∙ from_separator largest sep 1 0 (get_or l 1 0) (drop 2 l) q ∙ one_read)
 
-    pub zero_followed : (get_or l 1 0 ≡ sep → ⊥) → Stopped 1 ≡ first_read sep l
+    pub zero_followed : (get_or l 1 0 ≡ sep → ⊥) → Err 1 ≡ first_read sep l
     zero_followed q =
         sym (behind_zero ∙ ap (read_from largest sep 1 0) (drop_step l 1 longer)
-        ∙ from_stop largest sep 1 0 (get_or l 1 0) (drop 2 l) q (rw (le-ltb 0 0 (omega arith), ne_eqb 1 0 (λ e. omega arith)) (none (digit (get_or l 1 0)))))
+        ∙ from_stop largest sep 1 0 (get_or l 1 0) (drop 2 l) q (rw (le-ltb 0 0 (omega arith), ne_eqb 1 0 (λ e. omega arith)) (None (digit (get_or l 1 0)))))
       where
-        none : (t : Bool) → (t && false) ≡ false
-        none true = refl
-        none false = refl
+        None : (t : Bool) → (t && false) ≡ false
+        None true = refl
+        None false = refl
 
 pub ruleset zero_kit = (zero_alone, zero_longer, zero_ended, zero_followed)
 
@@ -218,35 +215,35 @@ pub leads_none : (l : List ℕ) → (get_or l 0 0 ≡ 48 → ⊥) → Leads l 0 
 leads_none l f = record { first = f; value = λ n. absurd (n refl) }
 
 module _ (sep : ℕ) (l : List ℕ) (i v : ℕ) (inv : first_read sep l ≡ read_from largest sep i v (drop i l)) where
-  pub finish : (r : NumberRead) → length l ≤ i → r ≡ end_of i v → r ≡ first_read sep l
+  pub finish : (r : Result (ℕ × ℕ) ℕ) → length l ≤ i → r ≡ end_of i v → r ≡ first_read sep l
   finish r h e = e ∙ sym (inv ∙ ap (read_from largest sep i v) (drop_of_length-le l h) ∙ from_none largest sep i v)
 
   module _ (lt : i < length l) where
     here : first_read sep l ≡ read_from largest sep i v (get_or l i 0 ∷ drop (i + 1) l)
     here = inv ∙ ap (read_from largest sep i v) (drop_step l i lt)
 
-    pub separator : (r : NumberRead) → get_or l i 0 ≡ sep → r ≡ end_of i v → r ≡ first_read sep l
+    pub separator : (r : Result (ℕ × ℕ) ℕ) → get_or l i 0 ≡ sep → r ≡ end_of i v → r ≡ first_read sep l
     separator r e f = f ∙ sym (here ∙ from_separator largest sep i v (get_or l i 0) _ e)
 
-    pub low : get_or l i 0 < 48 → (get_or l i 0 ≡ sep → ⊥) → Stopped i ≡ first_read sep l
+    pub low : get_or l i 0 < 48 → (get_or l i 0 ≡ sep → ⊥) → Err i ≡ first_read sep l
     low h n = sym (here ∙ from_stop largest sep i v (get_or l i 0) _ n (rw (lt-leb 48 (get_or l i 0) h) refl))
 
     module _ (below : sep < 48) (h : 48 ≤ get_or l i 0) where
       other : get_or l i 0 ≡ sep → ⊥
       other e = absurd (omega arith)
 
-      pub high : 57 < get_or l i 0 → Stopped i ≡ first_read sep l
+      pub high : 57 < get_or l i 0 → Err i ≡ first_read sep l
       high k = sym (here ∙ from_stop largest sep i v (get_or l i 0) _ other (rw (le-leb 48 (get_or l i 0) h, lt-leb (get_or l i 0) 57 k) refl))
 
       module _ (k : get_or l i 0 ≤ 57) where
-        pub large : largest < v * 10 + (get_or l i 0 - 48) → Stopped i ≡ first_read sep l
+        pub large : largest < v * 10 + (get_or l i 0 - 48) → Err i ≡ first_read sep l
         large m =
             sym (here ∙ from_stop largest sep i v (get_or l i 0) _ other
-            (rw (le-leb 48 (get_or l i 0) h, le-leb (get_or l i 0) 57 k, lt-leb (v * 10 + (get_or l i 0 - 48)) largest m) (none (ltb 0 v || eqb i 0))))
+            (rw (le-leb 48 (get_or l i 0) h, le-leb (get_or l i 0) 57 k, lt-leb (v * 10 + (get_or l i 0 - 48)) largest m) (None (ltb 0 v || eqb i 0))))
           where
-            none : (t : Bool) → (t && false) ≡ false
-            none true = refl
-            none false = refl
+            None : (t : Bool) → (t && false) ≡ false
+            None true = refl
+            None false = refl
 
         module _ (leads : Leads l i v) where
           pub again : v * 10 + (get_or l i 0 - 48) ≤ largest → first_read sep l ≡ read_from largest sep (i + 1) (v * 10 + (get_or l i 0 - 48)) (drop (i + 1) l)
@@ -279,10 +276,10 @@ pub ruleset digits_kit = (begin, leads_none, finish, separator, low, high, large
 -- ---- the end of a field
 
 module _ (size v : ℕ) where
-  pub ends_none : size ≡ 0 → Stopped 0 ≡ end_of size v
+  pub ends_none : size ≡ 0 → Err 0 ≡ end_of size v
   ends_none e = sym (rw (eq-eqb size 0 e) refl)
 
-  pub ends_some : (size ≡ 0 → ⊥) → Ended v size ≡ end_of size v
+  pub ends_some : (size ≡ 0 → ⊥) → Ok (v, size) ≡ end_of size v
   ends_some n = sym (rw (ne_eqb size 0 n) refl)
 
 pub ruleset end_kit = (ends_none, ends_some)

@@ -3,6 +3,7 @@
 use Prim.Native.Nat.{ℕ, zero, suc, ◌+◌, ◌*◌, ◌/◌, ◌%◌, ◌^◌, ◌≤◌, ◌<◌}
 use mathlib.Core.Path.{◌≡◌, refl, ap, ap₂, ◌∙◌}
 use mathlib.Core.Bool.{true}
+use Rattle.std.specs.Prelude.{Option, Some, is_some, unwrap_or}
 use mathlib.Core.List.{List, [], ◌∷◌, ◌++◌, map}
 use native.Mathlib.Nat.{pow-suc, mul-suc}
 use native.Mathlib.Decide.{dec_le}
@@ -13,21 +14,20 @@ use lib.ListN.{length, get_or, length-append}
 use Rattle.sets.proofs.Truth.{and_l, and_r}
 use Rattle.text.specs.Lines.{printable}
 use Rattle.text.proofs.Spelled.{Lacks, AllLack, AllPrintable, weight}
-use Rattle.numbers.specs.Numbers.{digit, digits, largest, answer, number_of, is_some, or_zero, is_number, value_of, spell}
+use Rattle.numbers.specs.Numbers.{digit, digits, largest, number_of, is_number, value_of, spell}
 use Rattle.numbers.specs.Listed.{are_numbers}
-use Rattle.numbers.specs.declared.Number.TheVariants.{Value}
 use Rattle.numbers.proofs.Spelling.{digit_of, spell_digit, spell_step, decimal_out, spelling_reads}
 
 -- ---- reading
 
-pub spell_number : (n : ℕ) → n ≤ largest → number_of (spell n) ≡ Value n
-spell_number n h = ap answer (spelling_reads largest n h)
+pub spell_number : (n : ℕ) → n ≤ largest → number_of (spell n) ≡ Some n
+spell_number n h = spelling_reads largest n h
 
 pub spell_is_number : (n : ℕ) → n ≤ largest → is_number (spell n) ≡ true
 spell_is_number n h = ap is_some (spelling_reads largest n h)
 
 pub spell_value : (n : ℕ) → n ≤ largest → value_of (spell n) ≡ n
-spell_value n h = ap or_zero (spelling_reads largest n h)
+spell_value n h = ap (λ (o : Option ℕ). unwrap_or o 0) (spelling_reads largest n h)
 
 -- ---- bytes
 

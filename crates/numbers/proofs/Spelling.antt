@@ -3,7 +3,7 @@
 use mathlib.Core.Path.{◌≡◌, refl, sym, ap, ap₂, ◌∙◌, subst}
 use mathlib.Core.Bool.{Bool, true, false, cond, ◌&&◌}
 use mathlib.Core.List.{List, [], ◌∷◌, ◌++◌, append_assoc, append-nil}
-use mathlib.Core.Option.{Option, none, some}
+use Rattle.std.specs.Prelude.{Option, Some, None}
 use Prim.Native.Nat.{ℕ, zero, suc, ◌+◌, ◌-◌, ◌*◌, ◌/◌, ◌%◌, ◌≤◌, ◌<◌}
 use native.Mathlib.Omega.{arith}
 use borrow.Author.Tests.{le-leb, ne_eqb, lt-ltb, le-ltb, ltb-true, ltb-false}
@@ -83,16 +83,16 @@ spelled (b ∷ (c ∷ bs)) p t =
     first : (b : ℕ) → 48 ≤ b → (b ≡ 48 → ⊥) → 0 < 0 * 10 + (b - 48)
     first b h n = omega arith
 
-some_injective : {a b : ℕ} → ◌≡◌ {A = Option ℕ} (some a) (some b) → a ≡ b
+some_injective : {a b : ℕ} → ◌≡◌ {A = Option ℕ} (Some a) (Some b) → a ≡ b
 some_injective e = cc
 
 -- What a field that is a number says of its bytes.
-pub decimal_out : (most : ℕ) (bs : List ℕ) (n : ℕ) → decimal most bs ≡ some n → T (plain bs) × T (digits bs) × (value_from 0 bs ≡ n) × (n ≤ most)
+pub decimal_out : (most : ℕ) (bs : List ℕ) (n : ℕ) → decimal most bs ≡ Some n → T (plain bs) × T (digits bs) × (value_from 0 bs ≡ n) × (n ≤ most)
 unfolding decimal
 decimal_out most bs n e = go (plain bs) refl (digits bs) refl (leb (value_from 0 bs) most) refl e
   where
     go : (p : Bool) → plain bs ≡ p → (q : Bool) → digits bs ≡ q → (r : Bool) → leb (value_from 0 bs) most ≡ r
-        → ◌≡◌ {A = Option ℕ} (cond (p && q && r) (some (value_from 0 bs)) none) (some n)
+        → ◌≡◌ {A = Option ℕ} (cond (p && q && r) (Some (value_from 0 bs)) None) (Some n)
         → T (plain bs) × T (digits bs) × (value_from 0 bs ≡ n) × (n ≤ most)
     go true p true q true r f =
         let z : value_from 0 bs ≡ n = cc in
@@ -101,11 +101,11 @@ decimal_out most bs n e = go (plain bs) refl (digits bs) refl (leb (value_from 0
     go true p false q s r f = let z : ◌≡◌ {A = ℕ} 0 1 = cc in absurd (omega arith)
     go false p s q u r f = let z : ◌≡◌ {A = ℕ} 0 1 = cc in absurd (omega arith)
 
-pub one_spelling : (most : ℕ) (bs : List ℕ) (n : ℕ) → decimal most bs ≡ some n → bs ≡ spell n
+pub one_spelling : (most : ℕ) (bs : List ℕ) (n : ℕ) → decimal most bs ≡ Some n → bs ≡ spell n
 one_spelling most bs n e = let d = decimal_out most bs n e in sym (spelled bs d.0 d.1) ∙ ap spell d.2
 
 -- Reading is injective on accepted spellings.
-pub reading_injective : (most : ℕ) (a b : List ℕ) (n : ℕ) → decimal most a ≡ some n → decimal most b ≡ some n → a ≡ b
+pub reading_injective : (most : ℕ) (a b : List ℕ) (n : ℕ) → decimal most a ≡ Some n → decimal most b ≡ Some n → a ≡ b
 reading_injective most a b n p q = one_spelling most a n p ∙ sym (one_spelling most b n q)
 
 -- ---- each number's spelling reads back
@@ -170,7 +170,7 @@ spell_plain zero = ap plain (spell_digit 0 (omega arith))
 spell_plain (suc n) = leads_plain (spell (suc n)) ((spells (suc (suc n)) (suc n) (omega arith)).leads (omega arith))
 
 -- Each number that is not too large has a spelling that reads back to it.
-pub spelling_reads : (most n : ℕ) → n ≤ most → decimal most (spell n) ≡ some n
+pub spelling_reads : (most n : ℕ) → n ≤ most → decimal most (spell n) ≡ Some n
 unfolding decimal
 spelling_reads most n h =
     let s = spells (suc n) n (omega arith) in

@@ -1,17 +1,16 @@
 -- Where reading stops: at the end of a field that is a number, else at the first byte after which no number up to the limit can follow.
 -- Assumes nothing.
 use mathlib.Core.Path.{◌≡◌, refl, sym, ap, ◌∙◌, subst}
-use mathlib.Core.Bool.{Bool, true, false, not, ◌&&◌, ◌||◌}
+use mathlib.Core.Bool.{Bool, true, false}
 use mathlib.Core.List.{List, [], ◌∷◌, ◌++◌, append-nil, append_assoc}
-use mathlib.Core.Option.{Option, none, some}
-use Prim.Native.Nat.{ℕ, zero, suc, ◌+◌, ◌-◌, ◌*◌, ◌≤◌, ◌<◌}
+use Rattle.std.specs.Prelude.{Option, Some, None, Result, Ok, Err}
+use Prim.Native.Nat.{ℕ, zero, suc, ◌+◌, ◌-◌, ◌*◌, ◌<◌}
 use native.Mathlib.Omega.{arith}
-use borrow.Author.Tests.{ne_eqb, eqb-true, eqb-false, ltb-true, ltb-false, leb-true, leb-false}
-use lib.Dec.{eqb, ltb, leb}
+use borrow.Author.Tests.{ne_eqb, eqb-true, eqb-false, leb-true, leb-false}
+use lib.Dec.{eqb, leb}
 use lib.ListN.{length, take, length-append}
-use Rattle.numbers.specs.Numbers.{digit, value_from, decimal, is_some, stop_of, read_answer, end_of}
+use Rattle.numbers.specs.Numbers.{digit, value_from, decimal, stop_of, read_answer, end_of}
 use Rattle.numbers.specs.Stops.{NoneFollows, SomeFollows, StopSays, at_end, at_once, at_byte}
-use Rattle.numbers.specs.declared.NumberRead.TheVariants.{Ended, Stopped}
 use Rattle.numbers.proofs.Fronts.{Fronts, fronts_none, Stops, stops_digit, stops_large, stops_zero, goes_on, stop_there, stop_end, take_front, take_through, some_of}
 
 -- A byte after which no number can follow, or a front that is one byte longer.
@@ -48,15 +47,24 @@ run most (b ∷ m) q f = go (byte_of most q b f) (λ g. run most m (q ++ (b ∷ 
     go (stop s) rest = halts q b m refl f s
     go (on g) rest = subst (Run most) (append_assoc q (b ∷ []) m) (rest g)
 
-stopped_number : (o : Option ℕ) (s k : ℕ) → read_answer o s ≡ Stopped k → (o ≡ none) × (s ≡ k)
-stopped_number none s k e = (refl, cc)
-stopped_number (some n) s k e = let z : ◌≡◌ {A = ℕ} 0 1 = cc in absurd (omega arith)
+stopped_number : (o : Option ℕ) (s k : ℕ) → read_answer o s ≡ Err k → (o ≡ None) × (s ≡ k)
+stopped_number None s k e = (refl, cc)
+stopped_number (Some n) s k e = let z : ◌≡◌ {A = ℕ} 0 1 = cc in absurd (omega arith)
 
-ended_number : (o : Option ℕ) (s n k : ℕ) → read_answer o s ≡ Ended n k → (o ≡ some n) × (s ≡ k)
-ended_number none s n k e = let z : ◌≡◌ {A = ℕ} 0 1 = cc in absurd (omega arith)
-ended_number (some m) s n k e = let z : m ≡ n = cc in (ap (λ (j : ℕ). some j) z, cc)
+-- The two numbers of a reading that ended.
+abbrev pub value_in : Result (ℕ × ℕ) ℕ → ℕ
+value_in (Ok p) = p.0
+value_in (Err k) = 0
 
-ended_at : (k v : ℕ) → end_of (suc k) v ≡ Ended v (suc k)
+abbrev pub stop_in : Result (ℕ × ℕ) ℕ → ℕ
+stop_in (Ok p) = p.1
+stop_in (Err k) = 0
+
+ended_number : (o : Option ℕ) (s n k : ℕ) → read_answer o s ≡ Ok (n, k) → (o ≡ Some n) × (s ≡ k)
+ended_number None s n k e = let z : ◌≡◌ {A = ℕ} 0 1 = cc in absurd (omega arith)
+ended_number (Some m) s n k e = (ap (λ (j : ℕ). Some j) (ap value_in e), ap stop_in e)
+
+ended_at : (k v : ℕ) → end_of (suc k) v ≡ Ok (v, suc k)
 ended_at k v = rw (ne_eqb (suc k) 0 (λ e. omega arith)) refl
 
 pub stops : (most : ℕ) (f : List ℕ) → StopSays most f (decimal most f) (stop_of most f)
@@ -68,18 +76,18 @@ stops most f = go (run most f [] (fronts_none most))
     whole : (l : List ℕ) → f ≡ l → Fronts most l → StopSays most f (decimal most f) (stop_of most f)
     whole [] e g =
         let r = stopped_number (decimal most []) (stop_of most []) 0 (stop_end most [] g) in
-        says none 0 (ap (decimal most) e ∙ r.0) (ap (stop_of most) e ∙ r.1) (at_once e)
+        says None 0 (ap (decimal most) e ∙ r.0) (ap (stop_of most) e ∙ r.1) (at_once e)
     whole (x ∷ xs) e g =
         let t = ap (λ (l : List ℕ). read_answer (decimal most l) (stop_of most l)) (sym (append-nil (x ∷ xs))) ∙ stop_end most (x ∷ xs) g ∙ ended_at (length xs) (value_from 0 (x ∷ xs)) in
         let r = ended_number (decimal most (x ∷ xs)) (stop_of most (x ∷ xs)) (value_from 0 (x ∷ xs)) (length (x ∷ xs)) t in
-        says (some (value_from 0 (x ∷ xs))) (length f) (ap (decimal most) e ∙ r.0) (ap (stop_of most) e ∙ r.1 ∙ ap length (sym e)) at_end
+        says (Some (value_from 0 (x ∷ xs))) (length f) (ap (decimal most) e ∙ r.0) (ap (stop_of most) e ∙ r.1 ∙ ap length (sym e)) at_end
 
     go : Run most f → StopSays most f (decimal most f) (stop_of most f)
     go (through g) = whole f refl g
     go (halts p b rest e g s) =
         let t = stopped_number (decimal most (p ++ (b ∷ rest))) (stop_of most (p ++ (b ∷ rest))) (length p) (stop_there most p b rest g s) in
         let k = ap length e ∙ length-append p (b ∷ rest) in
-        says none (length p) (ap (decimal most) e ∙ t.0) (ap (stop_of most) e ∙ t.1) (at_byte (omega arith) follows_none follows_some)
+        says None (length p) (ap (decimal most) e ∙ t.0) (ap (stop_of most) e ∙ t.1) (at_byte (omega arith) follows_none follows_some)
       where
         follows_none : NoneFollows most (take (suc (length p)) f)
         follows_none more =

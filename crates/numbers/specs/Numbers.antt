@@ -1,12 +1,8 @@
 -- A number (document 01, "Texts"): decimal, without a leading zero, up to a largest one.
 use Rattle.std.specs.Prelude.{ℕ, zero, suc, ◌+◌, ◌-◌, ◌*◌, ◌/◌, ◌%◌, Bool, true, false, not, cond, ◌&&◌, List, [], ◌∷◌, ◌++◌, leb, ltb, eqb, length, take}
-use Rattle.std.proofs.Math.Option.{Option, none, some}
+use Rattle.std.specs.Prelude.{Option, Some, None, is_some, unwrap_or, Result, Ok, Err}
 use Rattle.lists.specs.Leftmost.{leftmost}
 use Rattle.text.specs.Split.{first_part}
-use Rattle.numbers.specs.declared.Number.{Number}
-use Rattle.numbers.specs.declared.Number.TheVariants.{Value, Malformed}
-use Rattle.numbers.specs.declared.NumberRead.{NumberRead}
-use Rattle.numbers.specs.declared.NumberRead.TheVariants.{Ended, Stopped}
 
 -- A digit's byte, 48 to 57.
 abbrev pub digit : ℕ → Bool
@@ -29,33 +25,21 @@ plain (b ∷ (d ∷ bs)) = not (eqb b 48)
 
 -- The number that the bytes spell, if they spell one that is at most `most`.
 unfoldable pub decimal : ℕ → List ℕ → Option ℕ
-decimal most bs = cond (plain bs && digits bs && leb (value_from 0 bs) most) (some (value_from 0 bs)) none
+decimal most bs = cond (plain bs && digits bs && leb (value_from 0 bs) most) (Some (value_from 0 bs)) None
 
 -- The largest number of document 01's texts.
 abbrev pub largest : ℕ
 largest = 65535
 
-abbrev pub answer : Option ℕ → Number
-answer none = Malformed
-answer (some n) = Value n
-
-abbrev pub number_of : List ℕ → Number
-number_of bs = answer (decimal largest bs)
+abbrev pub number_of : List ℕ → Option ℕ
+number_of bs = decimal largest bs
 
 -- The bytes are a number; and which: the value that is meant only where they are one.
-abbrev pub is_some : Option ℕ → Bool
-is_some none = false
-is_some (some n) = true
-
-abbrev pub or_zero : Option ℕ → ℕ
-or_zero none = 0
-or_zero (some n) = n
-
 abbrev pub is_number : List ℕ → Bool
-is_number bs = is_some (decimal largest bs)
+is_number bs = is_some (number_of bs)
 
 abbrev pub value_of : List ℕ → ℕ
-value_of bs = or_zero (decimal largest bs)
+value_of bs = unwrap_or (number_of bs) 0
 
 -- Where reading stops in a field: at the first byte after which no number can follow, since the bytes up to it are none; or at the field's end.
 abbrev pub stop_of : ℕ → List ℕ → ℕ
@@ -68,15 +52,15 @@ first_number separator bs = decimal largest (first_part separator bs)
 abbrev pub first_stop : ℕ → List ℕ → ℕ
 first_stop separator bs = stop_of largest (first_part separator bs)
 
-abbrev pub read_answer : Option ℕ → ℕ → NumberRead
-read_answer none stop = Stopped stop
-read_answer (some n) stop = Ended n stop
+abbrev pub read_answer : Option ℕ → ℕ → Result (ℕ × ℕ) ℕ
+read_answer None stop = Err stop
+read_answer (Some n) stop = Ok (n, stop)
 
 -- At the end of a field of so many bytes, which are digits of this value: no byte is no number.
-abbrev pub end_of : ℕ → ℕ → NumberRead
-end_of size value = cond (eqb size 0) (Stopped 0) (Ended value size)
+abbrev pub end_of : ℕ → ℕ → Result (ℕ × ℕ) ℕ
+end_of size value = cond (eqb size 0) (Err 0) (Ok (value, size))
 
-unfoldable pub first_read : ℕ → List ℕ → NumberRead
+unfoldable pub first_read : ℕ → List ℕ → Result (ℕ × ℕ) ℕ
 first_read separator bs = read_answer (first_number separator bs) (first_stop separator bs)
 
 -- The spelling of a number in at most d digits.

@@ -1,17 +1,15 @@
 // A judge made apart from the library, for trials, of logs of at most 128 steps. It settles each bead on every pair of steps first,
-// straight from the next sets, with no step table and no backward pass.
-//
-// `on` has a number for each pair of steps, that of u and v at u * 128 + v: bit k is set if bead k + 1 holds on (u, v), bit 15 if a
-// route leads from u to v, as one does from each step to itself. `begun` has a number for each step: bit k is set if the first k beads hold there (bit 0: no bead, at step
-// 0 alone).
+// straight from the next sets, with no step table and no backward pass. A set of beads has bit k for bead k + 1, a set of prefixes
+// bit k for the first k beads.
 #![tactic(auto)]
 
 mod front;
+mod pairs;
 mod prefixes;
-mod row;
-mod spread;
+mod settled;
+mod states;
 
-pub use front::fill_front;
-pub use prefixes::fill_prefixes;
-pub use row::fill_row;
-pub use spread::fill_pairs;
+pub use settled::{Row, Settled};
+
+// No step from this one on is looked at.
+pub const STEPS: usize = 128;

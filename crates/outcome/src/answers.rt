@@ -1,62 +1,50 @@
-// What calls answered, and how often each number was answered.
-use crate::marks::print_buffer;
-use crate::print::{print_after, print_bytes, print_count, print_line, print_number};
+// What a call answered, and what it left in a buffer that was all marks before it.
+use crate::marks::{is_marked, marked, sum_of_sums};
+use answer::Answer;
 use std::io;
 
+// Tries a call that is lent the first numbers of n marks, as many as `lent` says, all of them where it says nothing; prints
+// what it answered and left, with no line end.
+pub fn try_marked<F: FnOnce(&mut [u16]) -> Answer>(
+    rt: &(impl Print + AllocGlobal),
+    name: &str,
+    n: usize,
+    lent: &str,
+    call: F,
+) -> io::Result<(Answer, Vec<u16>)>
+    requires { F.IsAlwaysCallable call }
+{
+    let mut buffer = marked(rt.alloc(), n)?;
+    let n = lent.parse().unwrap_or(n).min(buffer.len());
+    let answer = call(&mut buffer[..n]);
+    print_answer(rt, name, answer)?;
+    print_buffer(rt, answer.number, &buffer)?;
+    Ok((answer, buffer))
+}
+
 // `name: number n line l byte b count c`, with no line end.
-pub fn print_answer(
-    rt: &impl Print,
-    name: &[u8],
-    number: u16,
-    line: u16,
-    byte: u16,
-    count: u16,
-) -> io::Result<()> {
-    print_bytes(rt, name)?;
-    print_after(rt, b": number ", number)?;
-    print_after(rt, b" line ", line)?;
-    print_after(rt, b" byte ", byte)?;
-    print_after(rt, b" count ", count)
+pub fn print_answer(rt: &impl Print, name: &str, a: Answer) -> io::Result<()> {
+    print!(rt;
+        "{name}: number {} line {} byte {} count {}",
+        a.number, a.line, a.byte, a.count
+    )
 }
 
-// The line of a call that was lent one buffer of marks: its answer, and what it left.
-pub fn print_call(
-    rt: &impl Print,
-    name: &[u8],
-    number: u16,
-    line: u16,
-    byte: u16,
-    count: u16,
-    buffer: &[u16],
-) -> io::Result<()> {
-    print_answer(rt, name, number, line, byte, count)?;
-    print_buffer(rt, number, buffer)?;
-    print_line(rt, b"")
-}
-
-// Counts an answer with this number; one past the end of the counts is not counted.
-pub fn tally(counts: &mut [u16], number: u16) {
-    let i = number as usize;
-    if i < counts.len() {
-        counts[i] = counts[i].wrapping_add(1);
+// After number 0 the sum of sums, after a refusal whether the marks are unchanged.
+pub fn print_buffer(rt: &impl Print, number: u16, s: &[u16]) -> io::Result<()> {
+    if number == 0 {
+        print!(rt; " sum {}", sum_of_sums(s))
+    } else if is_marked(s) {
+        print!(rt; " unchanged")
+    } else {
+        print!(rt; " CHANGED")
     }
 }
 
-// A line for each number that was answered: how often.
-pub fn print_tally(rt: &impl Print, counts: &[u16]) -> io::Result<()> {
-    let mut i = 0;
-    while i < counts.len() {
-        print_tallied(rt, i, counts[i])?;
-        i += 1;
+// A claim that fails is printed with a word more.
+pub fn print_claim(rt: &impl Print, claim: &str, holds: bool) -> io::Result<()> {
+    if !holds {
+        print!(rt; " FAILS:")?;
     }
-    Ok(())
-}
-
-fn print_tallied(rt: &impl Print, i: usize, n: u16) -> io::Result<()> {
-    if n > 0 {
-        print_bytes(rt, b"cases answered ")?;
-        print_number(rt, i as u64)?;
-        print_count(rt, b"", n as u64)?;
-    }
-    Ok(())
+    print!(rt; "{claim}")
 }

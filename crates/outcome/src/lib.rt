@@ -1,11 +1,11 @@
 // What test programs say of a call: its answer, what it left in a buffer that was all marks before
-// it, how often each number was answered, and lines of bytes and numbers.
+// it, how often each number was answered.
 #![tactic(auto)]
 
 mod answers;
 mod marks;
-mod print;
+mod tally;
 
-pub use answers::{print_answer, print_call, print_tally, tally};
-pub use marks::{is_marked, mark, print_buffer, print_sum, sum_of_sums};
-pub use print::{print_after, print_bytes, print_claim, print_count, print_line, print_number};
+pub use answers::{print_answer, print_buffer, print_claim, try_marked};
+pub use marks::{Mark, is_marked, is_marked_from, marked, sum_of_sums};
+pub use tally::Tally;

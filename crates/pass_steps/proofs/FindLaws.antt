@@ -112,4 +112,4 @@ module _ (pattern log : List ℕ) (k hopeful : ℕ) (seeds : List ℕ) (first un
       pub bounded_stay : alive ≡ 0 → Bounded pattern log k hopeful seeds first until last (x + 1) reach
       bounded_stay z = farther x reach inv reach (omega arith) inv.inside (λ i l t. absurd (lives i l t z))
 
-pub ruleset reach_kit = (bounded_near, bounded_far, bounded_stay)
+pub ruleset reach_kit = (bounded_near, bounded_far)

@@ -1,1 +1,2 @@
 pub mod PassSteps
+pub mod Made

@@ -2,98 +2,86 @@
 #![tactic(auto)]
 
 ghost use Rattle.std.specs.Prelude.{◌≡◌, ◌+◌, ◌<◌, ◌≤◌, length};
-ghost use Rattle.layout.specs.Layout.{work_length};
+ghost use Rattle.layout.specs.Layout.{most_steps, work_length};
 ghost use Rattle.necklace.specs.Dag.{WellFormed};
 ghost use Rattle.pattern_buffer.specs.Meaning.{labels_in};
 ghost use Rattle.log_buffer.specs.Meaning.{steps_in, log_of};
-ghost use Rattle.log_links.specs.Links.{Laid, LastTo};
+ghost use Rattle.log_links.specs.Links.{LastTo};
 ghost use Rattle.entering.specs.Entering.{BeadIn};
-ghost use Rattle.pass_steps.specs.PassSteps.{beginning_at, Held, FoundTo, Bounded};
+ghost use Rattle.pass_steps.specs.PassSteps.{beginning_at};
 
-// The lanes that begin at the step x.
-fn beginning(seeds: &[u16], until: usize, x: usize) -> u16
-    requires { (until ≤ 1024) × (1024 ≤ length seeds.now) }
-    ensures { result ≡ beginning_at seeds.now until x }
-{
-    if x < until {
-        return seeds[x];
-    }
-    0
+use entering::Bead;
+use log_links::Log;
+
+// What a pass is made of: a bead, a log, and for each step the lanes that begin there, of the steps from `first` on and below `until`.
+#[derive(Clone, Copy)]
+pub struct Pass<'a> {
+    pub bead: Bead<'a>,
+    pub log: Log<'a>,
+    pub seeds: &'a [u16],
+    pub first: usize,
+    pub until: usize,
+    ghost bead_in: { BeadIn bead.pattern.now bead.place },
+    ghost inside: { (until ≤ most_steps) × (most_steps ≤ length seeds.now) },
 }
 
-// The turn of the step x: the lanes that arrive there, and those that begin there.
-pub fn advance(
-    pattern: &[u16],
-    log: &[u16],
-    bead: usize,
-    seeds: &[u16],
-    first: usize,
-    until: usize,
-    x: usize,
-    work: &mut [u16],
-)
-    requires bead_in { BeadIn pattern.now bead }
-    requires laid { Laid log.now }
-    requires well_formed { WellFormed (labels_in pattern.now) (log_of log.now) }
-    requires x_bound { (x < steps_in log.now) × (until ≤ 1024) × (1024 ≤ length seeds.now) × (work_length ≤ length work.old) }
-    requires held { Held pattern.now log.now bead seeds.now first until x work.old }
-    ensures { Held pattern.now log.now bead seeds.now first until (x + 1) work.new }
-{
-    let begin = beginning(seeds, until, x);
-    turning::turn(pattern, log, bead, first, x, begin, work);
-}
+impl<'a> Pass<'a> {
+    ghost use Rattle.pass_steps.specs.Made.{HeldBy, FoundBy, BoundedBy};
 
-// The lanes that reach the step x.
-pub fn find(
-    pattern: &[u16],
-    log: &[u16],
-    bead: usize,
-    seeds: &[u16],
-    first: usize,
-    until: usize,
-    x: usize,
-    work: &[u16],
-    found: &mut [u16],
-)
-    requires bead_in { BeadIn pattern.now bead }
-    requires first_le_x { (first ≤ x) × (x < 1024) × (work_length ≤ length work.now) × (1024 ≤ length found.old) }
-    requires held { Held pattern.now log.now bead seeds.now first until (x + 1) work.now }
-    requires found_to { FoundTo pattern.now log.now bead seeds.now first until x found.old }
-    ensures { FoundTo pattern.now log.now bead seeds.now first until (x + 1) found.new }
-{
-    found[x] = lane_sets::reaching(pattern, bead, pattern[layout::FINAL_SETS + bead], work, x);
-}
+    // The lanes that begin at the step x.
+    #[tactic(auto, using(crate::proofs::BeginLaws::begin_kit))]
+    fn beginning(&self, x: usize) -> u16
+        ensures { result ≡ beginning_at self.now.seeds.now self.now.until x }
+    {
+        if x < self.until { self.seeds[x] } else { 0 }
+    }
 
-// How far the pass has to go after the step x: to the last step that it has a link to, if a lane is alive there. An ALL bead gives a lane up
-// as soon as it is in a state beyond hope: that leads to such states alone. A step with no link past `reach` changes nothing:
-// its lanes are not looked at.
-pub fn reach_after(
-    pattern: &[u16],
-    log: &[u16],
-    bead: usize,
-    hopeful: u16,
-    seeds: &[u16],
-    first: usize,
-    until: usize,
-    last: &[u16],
-    x: usize,
-    reach: usize,
-    work: &[u16],
-) -> usize
-    requires bead_in { BeadIn pattern.now bead }
-    requires last_to { LastTo log.now (steps_in log.now) last.now }
-    requires first_le_x { (first ≤ x) × (x < 1024) × (1024 ≤ length last.now) × (work_length ≤ length work.now) }
-    requires held { Held pattern.now log.now bead seeds.now first until (x + 1) work.now }
-    requires bounded { Bounded pattern.now log.now bead hopeful seeds.now first until last.now x reach }
-    ensures { Bounded pattern.now log.now bead hopeful seeds.now first until last.now (x + 1) result }
-{
-    let far = lists::wide(last[x]);
-    if far <= reach {
-        return reach;
+    // The turn of the step x: the lanes that arrive there, and those that begin there.
+    #[tactic(auto, using(crate::proofs::AdvanceLaws::held_more))]
+    pub fn advance(&self, x: usize, work: &mut [u16])
+        requires well_formed { WellFormed (labels_in self.now.bead.pattern.now) (log_of self.now.log.numbers.now) }
+        requires x_bound { (x < steps_in self.now.log.numbers.now) × (work_length ≤ length work.old) }
+        requires held { HeldBy self.now x work.old }
+        ensures { HeldBy self.now (x + 1) work.new }
+    {
+        let begin = self.beginning(x);
+        turning::turn(self.bead, self.log, self.first, x, begin, work);
     }
-    let alive = lane_sets::reaching(pattern, bead, hopeful, work, x);
-    if alive == 0 {
-        return reach;
+
+    // The lanes that reach the step x.
+    #[tactic(auto, using(crate::proofs::FindLaws::found_more))]
+    pub fn find(&self, x: usize, work: &[u16], found: &mut [u16])
+        requires first_le_x { (self.now.first ≤ x) × (x < most_steps) × (work_length ≤ length work.now) × (most_steps ≤ length found.old) }
+        requires held { HeldBy self.now (x + 1) work.now }
+        requires found_by { FoundBy self.now x found.old }
+        ensures { FoundBy self.now (x + 1) found.new }
+    {
+        found[x] = lane_sets::reaching(self.bead, self.bead.accepting(), work, x);
     }
-    far
+
+    // How far the pass has to go after the step x: to the last step that it has a link to, if a lane is alive there. An ALL bead gives a lane
+    // up as soon as it is in a state beyond hope: that leads to such states alone. A step with no link past `reach` changes nothing: its lanes
+    // are not looked at.
+    #[tactic(auto, using(crate::proofs::FindLaws::reach_kit))]
+    pub fn reach_after(
+        &self,
+        hopeful: u16,
+        last: &[u16],
+        x: usize,
+        reach: usize,
+        work: &[u16],
+    ) -> usize
+        requires last_to { LastTo self.now.log.numbers.now (steps_in self.now.log.numbers.now) last.now }
+        requires first_le_x { (self.now.first ≤ x) × (x < most_steps) × (most_steps ≤ length last.now) × (work_length ≤ length work.now) }
+        requires held { HeldBy self.now (x + 1) work.now }
+        requires bounded { BoundedBy self.now hopeful last.now x reach }
+        ensures { BoundedBy self.now hopeful last.now (x + 1) result }
+    {
+        let far = usize::from(last[x]);
+        if far <= reach {
+            return reach;
+        }
+        let alive = lane_sets::reaching(self.bead, hopeful, work, x);
+        if alive == 0 { reach } else { far }
+    }
 }

@@ -18,11 +18,10 @@ use Rattle.necklace.specs.Automaton.{Automaton}
 use Rattle.pattern_buffer.specs.Meaning.{labels_in, automaton_of, pattern_of}
 use Rattle.log_buffer.specs.Meaning.{steps_in, log_of}
 use Rattle.log_buffer.proofs.Meaning.{preds_are}
-use Rattle.log_links.specs.Links.{Laid, LastTo}
+use Rattle.log_links.specs.Links.{LastTo}
 use Rattle.necklace.specs.Forward.{forward, reaches?}
 use Rattle.necklace.proofs.Agrees.{reaches_from}
 use Rattle.necklace.proofs.Hope.{alive_turn, among_some, reaches_alive}
-use Rattle.entering.specs.Entering.{BeadIn}
 use Rattle.hope.specs.Hope.{HopefulSet}
 use Rattle.pass_steps.specs.PassSteps.{starts_in, bead_reaches, lane_reaches, lane_among, Held, FoundTo, Bounded}
 use Rattle.pass_steps.proofs.BeginLaws.{starts_before, starts_past}
@@ -123,23 +122,4 @@ module _ (pattern log : List ℕ) (k hopeful : ℕ) (seeds : List ℕ) (first un
               ∙ sym (unreached v (λ i a. no_false (lane_reaches pattern log k seeds first until v i)
               (λ t. dead (suc v) v i (omega arith) (omega arith) l a (reaches_alive G A (S i) (λ q. member q hopeful) hope.states ((pattern_of pattern).bead k).modality v t))))
 
--- ---- for the functions
-
-module _ (pattern log : List ℕ) (k hopeful : ℕ) (seeds : List ℕ) (first until : ℕ) (last : List ℕ) (x reach : ℕ) (b : Bounded pattern log k hopeful seeds first until last x reach) where
-  pub reach_inside : reach < steps_in log
-  reach_inside = b.inside
-
-  pub reach_small : PassOf pattern log k → reach < 1024
-  reach_small p = let i = b.inside in let f = p.laid.few in omega arith
-
-pub until_small : (pattern log : List ℕ) (k until : ℕ) → PassOf pattern log k → until ≤ steps_in log → until ≤ 1024
-until_small pattern log k until p h = let f = p.laid.few in omega arith
-
-pub pass_bead : (pattern log : List ℕ) (k : ℕ) → PassOf pattern log k → BeadIn pattern k
-pass_bead pattern log k p = p.bead
-
-pub pass_laid : (pattern log : List ℕ) (k : ℕ) → PassOf pattern log k → Laid log
-pass_laid pattern log k p = p.laid
-
-pub pass_well_formed : (pattern log : List ℕ) (k : ℕ) → PassOf pattern log k → WellFormed (labels_in pattern) (log_of log)
-pass_well_formed pattern log k p = p.well_formed
+pub ruleset none_kit = (found_none, pass_none)

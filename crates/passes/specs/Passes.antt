@@ -9,6 +9,7 @@ use Rattle.log_buffer.specs.Meaning.{steps_in, log_of}
 use Rattle.log_links.specs.Links.{Laid}
 use Rattle.entering.specs.Entering.{BeadIn}
 use Rattle.pass_steps.specs.PassSteps.{lane_reaches}
+use Rattle.pass_steps.specs.declared.Pass.{Pass}
 
 -- What a pass relies on: a bead of the pattern, under ALL with exactly one next state everywhere, and a log that is well formed.
 pub record PassOf (pattern log : List ℕ) (k : ℕ) : Type 0 where
@@ -21,3 +22,11 @@ pub record PassOf (pattern log : List ℕ) (k : ℕ) : Type 0 where
 -- For each step the set of the lanes that reach it.
 pub record Found (pattern log : List ℕ) (k : ℕ) (seeds : List ℕ) (first until : ℕ) (found : List ℕ) : Type 0 where
   pub lanes : (v : ℕ) → v < steps_in log → get_or found v 0 ≡ set_of 16 (lane_reaches pattern log k seeds first until v)
+
+-- ---- the same, by what a pass is made of
+
+abbrev pub PassFor : Pass → Type 0
+PassFor pass = PassOf pass.bead.pattern.now pass.log.numbers.now pass.bead.place
+
+abbrev pub FoundOf : Pass → List ℕ → Type 0
+FoundOf pass found = Found pass.bead.pattern.now pass.log.numbers.now pass.bead.place pass.seeds.now pass.first pass.until found

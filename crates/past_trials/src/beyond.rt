@@ -1,109 +1,79 @@
-// Demand 3: a row depends on nothing but its step's past. The judge on a log and on a second one that is alike in the past of a step.
-use tallies::{add, add_if};
-use trial::{Random, get};
+// The judge on a log and on a second one that is alike in the past of a step.
+use changed_logs::{Past, change_beyond, past_of};
+use judged_pairs::{Noise, Pair};
+use random_inputs::Links;
+use std::io;
+use std::num::Wrapping;
+use trial::Random;
 
-const PAIRS: usize = 0;
+#[derive(Default, Drop)]
+pub struct Counts {
+    pairs: Wrapping<u64>,
+    rows: Wrapping<u64>,
+    with_prefix: Wrapping<u64>,
+    whole: Wrapping<u64>,
+    differing: Wrapping<u64>,
+    elsewhere: Wrapping<u64>,
+    elsewhere_differing: Wrapping<u64>,
+    refused: Wrapping<u64>,
+}
 
-const ROWS: usize = 1;
-
-const MARKED: usize = 2;
-
-const WHOLE: usize = 3;
-
-const DIFFERING: usize = 4;
-
-const ELSEWHERE: usize = 5;
-
-const ELSEWHERE_DIFFERING: usize = 6;
-
-const REFUSED: usize = 7;
-
-pub fn try_pairs(pairs: u64, counts: &mut [u64]) {
-    let mut r = Random::new(2);
-    let mut i = 0;
-    while i < pairs {
-        r = try_pair(i, r, counts);
-        i += 1;
+impl Counts {
+    pub fn try_pairs(&mut self, pairs: u64) {
+        let mut random = Random::new(2);
+        for i in 0..pairs {
+            self.try_pair(i, &mut random);
+        }
     }
-}
 
-fn try_pair(i: u64, from: Random, counts: &mut [u64]) -> Random {
-    let mut pattern = [0u16; 2074];
-    let mut log = [0u16; 7170];
-    let r = random_inputs::draw_pattern(&mut pattern, (1 + i % 8) as u16, from);
-    let size = r.next();
-    let carried = size.next();
-    let labels = places::label_count(&pattern);
-    let steps = 1 + size.below(40) as u16;
-    let r = random_inputs::draw_log(
-        &mut log,
-        steps,
-        labels,
-        i / 8 % 6,
-        carried.below(5),
-        carried,
-    );
-    let step = r.next();
-    change(
-        &pattern,
-        &log,
-        step.below(steps as u64) as u16,
-        step,
-        counts,
-    )
-}
-
-// The second log has up to 20 steps beyond v.
-fn change(pattern: &[u16], log: &[u16], v: u16, from: Random, counts: &mut [u64]) -> Random {
-    let mut past = [0u16; 128];
-    let mut second = [0u16; 7170];
-    changed_logs::mark_past(log, v, &mut past);
-    let size = from.next();
-    let labels = places::label_count(pattern);
-    let steps = v.wrapping_add(1 + size.below(21) as u16);
-    let r = changed_logs::change_beyond(log, &past, steps, labels, &mut second, size);
-    judge_both(pattern, log, &second, &past, counts);
-    r
-}
-
-fn judge_both(pattern: &[u16], log: &[u16], second: &[u16], past: &[u16], counts: &mut [u64]) {
-    let mut one = [0u16; 10240];
-    let mut two = [0u16; 10240];
-    judge_one(pattern, log, &mut one, counts);
-    judge_one(pattern, second, &mut two, counts);
-    let n = smaller(places::step_count(log), places::step_count(second));
-    add(counts, PAIRS, 1);
-    compare_rows(places::bead_count(pattern), n, past, &one, &two, counts);
-}
-
-fn judge_one(pattern: &[u16], log: &[u16], res: &mut [u16], counts: &mut [u64]) {
-    let mut work = [0u16; 16384];
-    let a = judging::judge(pattern, log, res, &mut work);
-    add_if(counts, REFUSED, a.number != 0);
-}
-
-fn smaller(a: u16, b: u16) -> u16 {
-    if a < b { a } else { b }
-}
-
-fn compare_rows(beads: u16, n: u16, past: &[u16], one: &[u16], two: &[u16], counts: &mut [u64]) {
-    let mut w = 0;
-    while w < n {
-        compare_row(beads, w, get(past, w as usize) == 1, one, two, counts);
-        w += 1;
+    // The trial's index says how many beads, and how the links are drawn. The second log has up to 20 steps beyond the step.
+    fn try_pair(&mut self, i: u64, random: &mut Random) {
+        let way = Links::WAYS.get((i / 8 % 6) as usize).copied();
+        let pair = Pair::draw((1 + i % 8) as u16, way, random, |random| {
+            1 + random.draw(40) as u16
+        });
+        let step = random.draw(u64::from(pair.log.step_count())) as u16;
+        let past = past_of(&pair.log, step);
+        let steps = step.wrapping_add(1 + random.draw(21) as u16);
+        let labels = pair.pattern.label_count();
+        let log = change_beyond(&pair.log, &past, steps, labels, random);
+        let second = Pair { log, ..pair };
+        self.pairs += 1;
+        self.compare(&past, &pair, &second);
     }
-}
 
-fn compare_row(beads: u16, w: u16, within: bool, one: &[u16], two: &[u16], counts: &mut [u64]) {
-    let same = tallies::same_row(one, two, w);
-    if !within {
-        add(counts, ELSEWHERE, 1);
-        add_if(counts, ELSEWHERE_DIFFERING, !same);
-        return;
+    fn compare(&mut self, past: &Past, first: &Pair, second: &Pair) {
+        let one = first.judge(Noise::default());
+        let two = second.judge(Noise::default());
+        self.refused += u64::from(one.is_refused());
+        self.refused += u64::from(two.is_refused());
+        let steps = first.log.step_count().min(second.log.step_count());
+        for ((w, row), other) in (0..steps).zip(&one.rows).zip(&two.rows) {
+            let differing = u64::from(row != other);
+            if past.has(w) {
+                self.count_row(first.pattern.bead_count(), row[0]);
+                self.differing += differing;
+            } else {
+                self.elsewhere += 1;
+                self.elsewhere_differing += differing;
+            }
+        }
     }
-    let prefixes = get(one, tallies::row_place(w) as usize);
-    add(counts, ROWS, 1);
-    add_if(counts, MARKED, prefixes != 0);
-    add_if(counts, WHOLE, places::has(prefixes, beads.wrapping_sub(1)));
-    add_if(counts, DIFFERING, !same);
+
+    fn count_row(&mut self, beads: u16, prefixes: u16) {
+        self.rows += 1;
+        self.with_prefix += u64::from(prefixes != 0);
+        self.whole += u64::from(places::has(prefixes, beads.wrapping_sub(1)));
+    }
+
+    pub fn print(&self, rt: &impl Print) -> io::Result<()> {
+        println!(rt; "pairs of logs alike in the past of a step: {}", self.pairs)?;
+        println!(rt; "rows of that past compared: {}", self.rows)?;
+        println!(rt; "  rows with a prefix: {}", self.with_prefix)?;
+        println!(rt; "  whole necklaces: {}", self.whole)?;
+        println!(rt; "  rows that differ: {}", self.differing)?;
+        println!(rt; "rows of other steps in both logs: {}", self.elsewhere)?;
+        println!(rt; "  rows that differ: {}", self.elsewhere_differing)?;
+        println!(rt; "logs refused: {}", self.refused)
+    }
 }

@@ -10,6 +10,7 @@ use lib.Dec.{eqb}
 use lib.ListN.{length, get_or, drop, set, replicate, length-replicate, get_or-replicate}
 use Rattle.answer.specs.declared.Answer.{Answer}
 use Rattle.answer.specs.Answers.{accepted_with, refused_at, refused_in}
+use Rattle.std.specs.Prelude.{Result, Ok, Err}
 use Rattle.text.specs.Walk.{Outcome, accepted, faulty, walk, read_text}
 use Rattle.sets.specs.Sets.{set_of}
 use Rattle.layout.specs.Layout.{pattern_length}
@@ -24,15 +25,7 @@ use Rattle.pattern_line.specs.Answers.{refusal_number}
 use Rattle.pattern_late.specs.Late.{Bounded, late_faults, late_said}
 use Rattle.pattern_walk.specs.Reading.{HeaderRead, FirstTold, FirstRead, LinesRead, RowsTold, RowsRead}
 use Rattle.pattern.specs.Reading.{text_said, counted, concluded, beads_of, TextRead}
-use Rattle.pattern_line.specs.declared.refusals.Refusal.{Refusal}
-use Rattle.pattern_late.specs.declared.LateAnswer.{LateAnswer}
-use Rattle.pattern_late.specs.declared.LateAnswer.TheVariants.{Fine, Refused as LateRefused}
-use Rattle.pattern_walk.specs.declared.FirstAnswer.{FirstAnswer}
-use Rattle.pattern_walk.specs.declared.FirstAnswer.TheVariants.{Labels, Refused as FirstRefused}
-use Rattle.pattern_walk.specs.declared.RowsAnswer.{RowsAnswer}
-use Rattle.pattern_walk.specs.declared.RowsAnswer.TheVariants.{Stored, Refused as RowsRefused}
-use Rattle.pattern.specs.declared.reading.TextAnswer.{TextAnswer}
-use Rattle.pattern.specs.declared.reading.TextAnswer.TheVariants.{Beads, Refused as TextRefused}
+use Rattle.pattern_line.specs.declared.refusals.Fault.{Fault}
 use Rattle.pattern_store.proofs.BufferLaws.{Holds, buffer_holds, holds_buffer}
 use Rattle.pattern_late.proofs.SlotLaws.{outcome_as, late_rows, bounded}
 use Rattle.pattern.proofs.AcceptedLaws.{Accepted, lines_accepted}
@@ -59,16 +52,16 @@ module _ (b : List ℕ) where
   unfolding concluded
   conclude_none e = sym (rw (eq-eqb (get_or b 1 0) 0 e) refl)
 
-  module _ (n : get_or b 1 0 ≡ 0 → ⊥) (a : LateAnswer) (said : late_said a ≡ late_faults b) where
+  module _ (n : get_or b 1 0 ≡ 0 → ⊥) (a : Result (Unit {0}) Fault) (said : late_said a ≡ late_faults b) where
     late : concluded b ≡ counted (get_or b 1 0) (late_said a)
     unfolding concluded
     late = rw (ne_eqb (get_or b 1 0) 0 n) (ap (counted (get_or b 1 0)) (sym said))
 
-    pub conclude_fault : (f : Refusal) (line : ℕ) → a ≡ LateRefused f line → faulty (refusal_number f) line ≡ concluded b
-    conclude_fault f line p = sym (late ∙ ap (λ (x : LateAnswer). counted (get_or b 1 0) (late_said x)) p)
+    pub conclude_fault : (f : Fault) → a ≡ Err f → faulty (refusal_number f.refusal) f.line ≡ concluded b
+    conclude_fault f p = sym (late ∙ ap (λ (x : Result (Unit {0}) Fault). counted (get_or b 1 0) (late_said x)) p)
 
-    pub conclude_fine : a ≡ Fine → accepted (get_or b 1 0) ≡ concluded b
-    conclude_fine p = sym (late ∙ ap (λ (x : LateAnswer). counted (get_or b 1 0) (late_said x)) p)
+    pub conclude_fine : (u : Unit {0}) → a ≡ Ok u → accepted (get_or b 1 0) ≡ concluded b
+    conclude_fine u p = sym (late ∙ ap (λ (x : Result (Unit {0}) Fault). counted (get_or b 1 0) (late_said x)) p)
 
 pub ruleset conclude_kit = (beads_inside, conclude_none, conclude_fault, conclude_fine)
 
@@ -113,30 +106,30 @@ module _ (k : Known) (acc : Accepted k) (b : List ℕ) (h : Holds k b) where
       go false q = late (late_faults b) (sym (late_rows k b h acc.few acc.sound) ∙ q)
 
 -- A refusal before the end of the text stays.
-refused_text : (text : List ℕ) (f : Refusal) (line : ℕ) (b : List ℕ) → read_text pattern_format text ≡ faulty (refusal_number f) line → TextRead text (TextRefused f line) b
-refused_text text f line b e =
+refused_text : (text : List ℕ) (f : Fault) (b : List ℕ) → read_text pattern_format text ≡ faulty (refusal_number f.refusal) f.line → TextRead text (Err f) b
+refused_text text f b e =
     record {
       said = sym (ap (λ (o : Outcome Known). beads_of (conclude o)) e);
       numbers = λ k q. never (sym (ap conclude e) ∙ q);
     }
   where
-    never : {X : Type 0} {k : Known} → faulty (refusal_number f) line ≡ accepted k → X
+    never : {X : Type 0} {k : Known} → faulty (refusal_number f.refusal) f.line ≡ accepted k → X
     never q = let w : ◌≡◌ {A = ℕ} 0 1 = cc in absurd (omega arith)
 
 module _ (text : List ℕ) where
-  pub first_ends : (a : FirstAnswer) → FirstRead text a → (f : Refusal) (line : ℕ) → a ≡ FirstRefused f line → (b : List ℕ) → TextRead text (TextRefused f line) b
-  first_ends a d f line p b = refused_text text f line b (subst (FirstTold text) p d.told)
+  pub first_ends : (a : Result (ℕ × ℕ) Fault) → FirstRead text a → (f : Fault) → a ≡ Err f → (b : List ℕ) → TextRead text (Err f) b
+  first_ends a d f p b = refused_text text f b (subst (FirstTold text) p d.told)
 
-  pub first_goes : (a : FirstAnswer) → FirstRead text a → (labels at : ℕ) → a ≡ Labels labels at → HeaderRead text labels at
+  pub first_goes : (a : Result (ℕ × ℕ) Fault) → FirstRead text a → (labels at : ℕ) → a ≡ Ok (labels, at) → HeaderRead text labels at
   first_goes a d labels at p = subst (FirstTold text) p d.told
 
-  module _ (a : RowsAnswer) (b : List ℕ) (d : RowsRead text a b) where
-    pub rows_end_text : (f : Refusal) (line : ℕ) → a ≡ RowsRefused f line → TextRead text (TextRefused f line) b
-    rows_end_text f line p = refused_text text f line b (subst (λ (x : RowsAnswer). RowsTold text x b) p d.told)
+  module _ (a : Result (Unit {0}) Fault) (b : List ℕ) (d : RowsRead text a b) where
+    pub rows_end_text : (f : Fault) → a ≡ Err f → TextRead text (Err f) b
+    rows_end_text f p = refused_text text f b (subst (λ (x : Result (Unit {0}) Fault). RowsTold text x b) p d.told)
 
-    module _ (p : a ≡ Stored) where
+    module _ (u : Unit {0}) (p : a ≡ Ok u) where
       all_read : LinesRead text b
-      all_read = subst (λ (x : RowsAnswer). RowsTold text x b) p d.told
+      all_read = subst (λ (x : Result (Unit {0}) Fault). RowsTold text x b) p d.told
 
       read_known : Accepted all_read.known
       read_known = lines_accepted text all_read.known all_read.lines
@@ -147,7 +140,7 @@ module _ (text : List ℕ) where
       pub rows_bounded : Bounded b
       rows_bounded = bounded all_read.known b held read_known.few read_known.sound
 
-      pub text_concluded : (r : TextAnswer) → text_said r ≡ concluded b → TextRead text r b
+      pub text_concluded : (r : Result ℕ Fault) → text_said r ≡ concluded b → TextRead text r b
       text_concluded r e =
           record {
             said = e ∙ sym (ap (λ (o : Outcome Known). beads_of (conclude o)) all_read.lines ∙ concluded_rows all_read.known read_known b held);
@@ -195,7 +188,7 @@ module _ (text room : List ℕ) where
     pub after_short : room ≡ pattern_after text room
     after_short = room_kept (host_faults room) room (filled_by (pattern_text text) room) (stopped_below (length room) pattern_length (refused_at 2 0) [] short)
 
-  module _ (fits : pattern_length ≤ length room) (r : TextAnswer) (b : List ℕ) (d : TextRead text r b) where
+  module _ (fits : pattern_length ≤ length room) (r : Result ℕ Fault) (b : List ℕ) (d : TextRead text r b) where
     passed : Passed (host_faults room)
     passed = passed_past (length room) pattern_length (refused_at 2 0) [] fits passed_all
 
@@ -205,17 +198,17 @@ module _ (text room : List ℕ) where
     after_long : pattern_after text room ≡ filled_by (pattern_text text) room
     after_long = sym (room_filled (host_faults room) room (filled_by (pattern_text text) room) (filled_by (pattern_text text) room) passed refl)
 
-    module _ (f : Refusal) (line : ℕ) (p : r ≡ TextRefused f line) where
-      fault : pattern_text text ≡ faulty (refusal_number f) line
-      fault = faulty_said (pattern_text text) (refusal_number f) line (sym (ap text_said p) ∙ d.said)
+    module _ (f : Fault) (p : r ≡ Err f) where
+      fault : pattern_text text ≡ faulty (refusal_number f.refusal) f.line
+      fault = faulty_said (pattern_text text) (refusal_number f.refusal) f.line (sym (ap text_said p) ∙ d.said)
 
-      pub answer_refused : (n : ℕ) (a : Answer) → n ≡ refusal_number f → a ≡ refused_with text n line → a ≡ pattern_answer text room
-      answer_refused n a e q = q ∙ ap (λ (m : ℕ). refused_with text m line) e ∙ sym (answer_long ∙ ap (answer_of text) fault)
+      pub answer_refused : (n : ℕ) (a : Answer) → n ≡ refusal_number f.refusal → a ≡ refused_with text n f.line → a ≡ pattern_answer text room
+      answer_refused n a e q = q ∙ ap (λ (m : ℕ). refused_with text m f.line) e ∙ sym (answer_long ∙ ap (answer_of text) fault)
 
       pub after_refused : room ≡ pattern_after text room
       after_refused = sym (after_long ∙ ap (λ (o : Outcome Known). filled_by o room) fault)
 
-    module _ (c : ℕ) (p : r ≡ Beads c) where
+    module _ (c : ℕ) (p : r ≡ Ok c) where
       known : (k : Known) × (pattern_text text ≡ accepted k) × (c ≡ bead_count k.rows)
       known = accepted_said (pattern_text text) c (sym (ap text_said p) ∙ d.said)
 

@@ -4,14 +4,14 @@
 ghost use Rattle.std.specs.Prelude.{◌≡◌};
 ghost use Rattle.pattern.specs.Answer.{refused_with, pattern_answer, pattern_after};
 
-use crate::reading::{TextAnswer, read_text};
+use crate::reading::read_text;
 use answer::Answer;
 use pattern_byte::byte_of;
-use pattern_line::refusals::number_of;
 
 mod reading;
 
 // The refusal of a text, with the place in the line at fault.
+#[tactic(auto, using(crate::proofs::ReadingLaws::refuse_kit))]
 fn refuse(text: &[u8], number: u16, line: u16) -> Answer
     ensures { result ≡ refused_with text.now number line }
 {
@@ -19,6 +19,8 @@ fn refuse(text: &[u8], number: u16, line: u16) -> Answer
 }
 
 // Reads the text into a buffer of its own and copies that into the lent one where the text is accepted, so a refusal changes nothing.
+// `lists::copy` says what the numbers and the rest of the lent buffer are together, as the laws take it.
+#[tactic(auto, using(crate::proofs::ReadingLaws::pattern_kit))]
 pub fn read_pattern(text: &[u8], pattern: &mut [u16]) -> Answer
     ensures value { result ≡ pattern_answer text.now pattern.old }
     ensures pattern_after { pattern.new ≡ pattern_after text.now pattern.old }
@@ -28,8 +30,8 @@ pub fn read_pattern(text: &[u8], pattern: &mut [u16]) -> Answer
     }
     let mut buffer = [0u16; layout::PATTERN_LENGTH];
     match read_text(text, &mut buffer) {
-        TextAnswer::Refused(f, line) => refuse(text, number_of(f), line),
-        TextAnswer::Beads(count) => {
+        Err(fault) => refuse(text, u16::from(fault.refusal), fault.line),
+        Ok(count) => {
             lists::copy(&buffer, pattern);
             answer::accepted(count)
         }

@@ -1,4 +1,3 @@
 pub mod Places
-pub mod TestLaws
 pub mod OneNext
 pub mod Meaning

@@ -3,7 +3,7 @@ use Rattle.std.specs.Prelude.{ℕ, cond, List, eqb}
 use Rattle.lists.specs.Places.{at}
 use Rattle.sets.specs.Sets.{member, members}
 use Rattle.necklace.specs.Automaton.{Automaton}
-use Rattle.necklace.specs.Necklace.{Modality, SOME, ALL, Primitive, Pattern}
+use Rattle.necklace.specs.Necklace.{Modality, SOME, ALL, Pattern}
 use Rattle.layout.specs.Layout.{most_states, rule_at, states_at, accepting_at, next_at}
 
 abbrev pub labels_in : List ℕ → ℕ

@@ -1,51 +1,102 @@
-// The next sets of a pattern buffer whose beads are right: are they those that an accepted pattern text gives?
+// The numbers of a lent pattern buffer, each read under its name; and the test of its next sets: are they those that an accepted pattern
+// text gives?
 #![tactic(auto)]
 
-ghost use Rattle.std.specs.Prelude.{◌≡◌, true, ◌<◌, ◌≤◌, length};
+ghost use Rattle.std.specs.Prelude.{◌≡◌, ◌<◌, ◌≤◌, length, MatchOption, ℕ, List};
 ghost use Rattle.lists.specs.Places.{at};
-ghost use Rattle.layout.specs.Layout.{pattern_length, most_beads, most_states, most_labels, states_at};
-ghost use Rattle.pattern_buffer.specs.Valid.{beads_ok, next_ok, nexts_ok};
+ghost use Rattle.layout.specs.Layout.{pattern_length, most_beads, most_states, most_labels, rule_at, states_at, accepting_at, next_at};
+ghost use Rattle.pattern_buffer.specs.Meaning.{labels_in, beads_in};
+ghost use Rattle.pattern_buffer.specs.Valid.{next_ok, nexts_ok};
 
-// The next set of the state q and the label a of the bead at place j: right if both are there, 0 if not.
-fn next_ok(buffer: &[u16], j: u16, q: u16, a: u16) -> bool
-    requires pattern_length_in_bounds { pattern_length ≤ length buffer.now }
-    requires j_lt_most_beads { j < most_beads }
-    requires q_lt_most_states { q < most_states }
-    requires a_lt_most_labels { a < most_labels }
-    requires j_bound { at buffer.now (states_at j) ≤ most_states }
-    ensures { result ≡ next_ok buffer.now j q a }
-{
-    let labels = buffer[0];
-    let rule = buffer[(2 + j) as usize];
-    let states = buffer[(10 + j) as usize];
-    let next = buffer[(26 + 256 * j + 16 * q + a) as usize];
-    if q >= states {
-        return next == 0;
-    }
-    if a >= labels {
-        return next == 0;
-    }
-    if !sets::within(next, states) {
-        return false;
-    }
-    if rule != 2 {
-        return true;
-    }
-    sets::single(next)
+use std::marker::Model;
+
+// A lent buffer as long as a pattern's.
+#[derive(Drop)]
+pub struct PatternNumbers<'a> {
+    numbers: &'a [u16],
 }
 
-// All 2,048 next sets, of beads that are right.
-pub fn nexts_ok(buffer: &[u16]) -> bool
-    requires pattern_length_in_bounds { pattern_length ≤ length buffer.now }
-    requires buffer_value { beads_ok buffer.now ≡ true }
-    ensures { result ≡ nexts_ok buffer.now }
-{
-    let mut i = 0;
-    while i < 2048 {
-        if !next_ok(buffer, i / 256, i / 16 % 16, i % 16) {
-            return false;
+// In contracts it is the list of its numbers.
+impl<'a> Model for PatternNumbers<'a> {
+    ghost Value = { List ℕ };
+
+    ghost view = { λ pattern. pattern.numbers.now };
+
+    ghost invariant = { λ pattern. pattern_length ≤ length pattern.numbers.now };
+}
+
+impl<'a> PatternNumbers<'a> {
+    // None where the buffer is too short.
+    pub fn new(numbers: &'a [u16]) -> Option<Self>
+        ensures { MatchOption result (length numbers.now < pattern_length) (λ pattern. pattern ≡ numbers.now) }
+    {
+        if numbers.len() < layout::PATTERN_LENGTH {
+            None
+        } else {
+            Some(PatternNumbers { numbers })
         }
-        i += 1;
     }
-    true
+
+    pub fn labels(&self) -> usize
+        ensures { result ≡ labels_in self.now }
+    {
+        usize::from(self.numbers[0])
+    }
+
+    pub fn beads(&self) -> usize
+        ensures { result ≡ beads_in self.now }
+    {
+        usize::from(self.numbers[1])
+    }
+
+    // The rule, the state count and the final set of the bead at place j.
+    pub fn rule(&self, j: usize) -> u16
+        requires { j < most_beads }
+        ensures { result ≡ at self.now (rule_at j) }
+    {
+        self.numbers[layout::RULES + j]
+    }
+
+    pub fn states(&self, j: usize) -> u16
+        requires { j < most_beads }
+        ensures { result ≡ at self.now (states_at j) }
+    {
+        self.numbers[layout::STATE_COUNTS + j]
+    }
+
+    pub fn accepting(&self, j: usize) -> u16
+        requires { j < most_beads }
+        ensures { result ≡ at self.now (accepting_at j) }
+    {
+        self.numbers[layout::FINAL_SETS + j]
+    }
+
+    // The next set of its state q under the label a.
+    pub fn next(&self, j: usize, q: usize, a: usize) -> u16
+        requires { (j < most_beads) × (q < most_states) × (a < most_labels) }
+        ensures { result ≡ at self.now (next_at j q a) }
+    {
+        self.numbers[layout::NEXT_SETS + layout::SETS_A_BEAD * j + layout::SETS_A_STATE * q + a]
+    }
+
+    // A next set: right if state and label are there, 0 if not.
+    fn next_ok(&self, j: usize, q: usize, a: usize) -> bool
+        requires { (j < most_beads) × (q < most_states) × (a < most_labels) }
+        ensures { result ≡ next_ok self.now j q a }
+    {
+        let states = self.states(j);
+        let next = self.next(j, q, a);
+        if q < usize::from(states) && a < self.labels() {
+            sets::within(next, states) && (self.rule(j) != 2 || sets::single(next))
+        } else {
+            next == 0
+        }
+    }
+
+    // All 2,048 next sets.
+    pub fn nexts_ok(&self) -> bool
+        ensures { result ≡ nexts_ok self.now }
+    {
+        (0..2048).all(|i| self.next_ok(i / 256, i / 16 % 16, i % 16))
+    }
 }

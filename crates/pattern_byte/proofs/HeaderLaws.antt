@@ -3,7 +3,7 @@
 use mathlib.Core.Path.{◌≡◌, refl, sym, ap, ◌∙◌}
 use mathlib.Core.Bool.{Bool, true, false, cond, ◌&&◌}
 use mathlib.Core.List.{List, [], ◌∷◌}
-use Prim.Native.Nat.{ℕ, suc, ◌+◌, ◌-◌, ◌*◌, ◌^◌, ◌≤◌, ◌<◌}
+use Prim.Native.Nat.{ℕ, suc, ◌+◌, ◌*◌, ◌^◌, ◌≤◌, ◌<◌}
 use native.Mathlib.Omega.{arith}
 use native.Mathlib.Numerals.{add-one}
 use borrow.Author.Tests.{leb-true}
@@ -11,7 +11,7 @@ use lib.Dec.{leb}
 use lib.ListN.{length, get_or, take, drop, length-drop, drop_of_length-le}
 use lib.Seq.{length-take-le}
 use Rattle.text.specs.Split.{split, first_part}
-use Rattle.text.specs.Lines.{TextLine, last_line, as_lines, lines_of, printable, whole}
+use Rattle.text.specs.Lines.{TextLine, last_line, as_lines, lines_of, printable}
 use Rattle.text.proofs.SplitLaws.{split_some, split_empty, first_short, Cut, uncut, cut, cut_of}
 use Rattle.line_places.specs.Place.{unprintable_place, ranked_at, line_at}
 use Rattle.line_places.proofs.PlaceLaws.{place_most}

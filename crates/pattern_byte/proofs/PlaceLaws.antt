@@ -5,14 +5,13 @@ use mathlib.Core.Bool.{Bool, true, false, cond, ◌&&◌}
 use mathlib.Core.List.{List}
 use Prim.Native.Nat.{ℕ, ◌+◌, ◌-◌, ◌^◌, ◌≤◌, ◌<◌}
 use native.Mathlib.Omega.{arith}
-use borrow.Author.Tests.{lt-ltb, le-ltb, leb-true, eq-eqb, ne_eqb}
+use borrow.Author.Tests.{lt-ltb, le-ltb, leb-true, ne_eqb}
 use lib.Dec.{eqb, leb, ltb}
 use lib.ListN.{length, take, drop}
+use Rattle.std.specs.Prelude.{Result, Ok, Err}
 use Rattle.text.specs.Split.{split}
 use Rattle.text.specs.Lines.{TextLine, printable}
 use Rattle.line_places.specs.Place.{place_at, line_at, ranked_at, unprintable_place, found_line}
-use Rattle.line_places.specs.declared.LineFound.{LineFound}
-use Rattle.line_places.specs.declared.LineFound.TheVariants.{Whole, Broken}
 use Rattle.line_places.proofs.PlaceLaws.{place_most}
 use Rattle.line_places.proofs.LineLaws.{ranked_broken, whole_ordered, whole_inside, ranked_whole, unprintable_most}
 use Rattle.pattern_order.specs.Row.{Row}
@@ -23,54 +22,46 @@ use Rattle.pattern_byte.specs.Byte.{labels_named, rows_below, row_before, place_
 
 -- ---- by number
 
-module _ (text bytes : List ℕ) (k n : ℕ) where
-  module _ (p : ℕ) where
-    pub in_malformed : k ≡ 11 → (c : ℕ) → c ≡ labels_named text → p ≡ malformed_at c (split 32 bytes) → p ≡ place_in text k n bytes
-    unfolding place_in
-    in_malformed e c f g = g ∙ sym (rw (eq-eqb k 11 e, sym f) refl)
-
-    pub in_header : (k ≡ 11 → ⊥) → k ≡ 12 → p ≡ header_at (split 32 bytes) → p ≡ place_in text k n bytes
-    unfolding place_in
-    in_header a e g = g ∙ sym (rw (ne_eqb k 11 a, eq-eqb k 12 e) refl)
-
-    pub in_order : (k ≡ 11 → ⊥) → (k ≡ 12 → ⊥) → k ≡ 13 → p ≡ cond (eqb n 1) 0 (disordered_at (row_before text n) (split 32 bytes))
-        → p ≡ place_in text k n bytes
-    unfolding place_in
-    in_order a b e g = g ∙ sym (rw (ne_eqb k 11 a, ne_eqb k 12 b, eq-eqb k 13 e) refl)
-
-    module _ (h : 13 < k) where
-      pub in_rule : k ≡ 14 → p ≡ place_at (split 32 bytes) 1 → p ≡ place_in text k n bytes
-      unfolding place_in
-      in_rule e g = g ∙ sym (rw (ne_eqb k 11 (λ z. absurd (omega arith)), ne_eqb k 12 (λ z. absurd (omega arith)), ne_eqb k 13 (λ z. absurd (omega arith)), eq-eqb k 14 e) refl)
-
-      pub in_straying : (k ≡ 14 → ⊥) → k ≡ 15 → (b c : ℕ) → b ≡ (row_of (split 32 bytes)).bead → c ≡ states_of (rows_below text) b
-          → p ≡ straying_at c (split 32 bytes) → p ≡ place_in text k n bytes
-      unfolding place_in
-      in_straying a e b c f g q =
-          q ∙ ap (λ (m : ℕ). straying_at m (split 32 bytes)) (g ∙ ap (states_of (rows_below text)) f)
-          ∙ sym (rw (ne_eqb k 11 (λ z. absurd (omega arith)), ne_eqb k 12 (λ z. absurd (omega arith)), ne_eqb k 13 (λ z. absurd (omega arith)), ne_eqb k 14 a, eq-eqb k 15 e) refl)
-
-      pub in_ambiguous : (k ≡ 14 → ⊥) → (k ≡ 15 → ⊥) → k ≡ 16 → p ≡ ambiguous_at (split 32 bytes) → p ≡ place_in text k n bytes
-      unfolding place_in
-      in_ambiguous a b e g =
-          g ∙ sym (rw (ne_eqb k 11 (λ z. absurd (omega arith)), ne_eqb k 12 (λ z. absurd (omega arith)), ne_eqb k 13 (λ z. absurd (omega arith)), ne_eqb k 14 a, ne_eqb k 15 b, eq-eqb k 16 e) refl)
-
-  pub in_none : 13 < k → (k ≡ 14 → ⊥) → (k ≡ 15 → ⊥) → (k ≡ 16 → ⊥) → 0 ≡ place_in text k n bytes
+module _ (text bytes : List ℕ) (k n p : ℕ) where
+  pub in_malformed : k ≡ 11 → (c : ℕ) → c ≡ labels_named text → p ≡ malformed_at c (split 32 bytes) → p ≡ place_in text k n bytes
   unfolding place_in
-  in_none h a b c =
-      sym (rw (ne_eqb k 11 (λ z. absurd (omega arith)), ne_eqb k 12 (λ z. absurd (omega arith)), ne_eqb k 13 (λ z. absurd (omega arith)), ne_eqb k 14 a, ne_eqb k 15 b, ne_eqb k 16 c) refl)
+  in_malformed e c f g = g ∙ sym (rw (e, sym f) refl)
 
-pub ruleset late_kit = (in_rule, in_straying, in_ambiguous, in_none)
+  pub in_header : k ≡ 12 → p ≡ header_at (split 32 bytes) → p ≡ place_in text k n bytes
+  unfolding place_in
+  in_header e g = g ∙ sym (rw e refl)
 
-pub ruleset in_kit = (in_malformed, in_header, in_order)
+  pub in_order : k ≡ 13 → p ≡ cond (eqb n 1) 0 (disordered_at (row_before text n) (split 32 bytes)) → p ≡ place_in text k n bytes
+  unfolding place_in
+  in_order e g = g ∙ sym (rw e refl)
+
+  pub in_rule : k ≡ 14 → p ≡ place_at (split 32 bytes) 1 → p ≡ place_in text k n bytes
+  unfolding place_in
+  in_rule e g = g ∙ sym (rw e refl)
+
+  pub in_straying : k ≡ 15 → (b c : ℕ) → b ≡ (row_of (split 32 bytes)).bead → c ≡ states_of (rows_below text) b
+      → p ≡ straying_at c (split 32 bytes) → p ≡ place_in text k n bytes
+  unfolding place_in
+  in_straying e b c f g q = q ∙ ap (λ (m : ℕ). straying_at m (split 32 bytes)) (g ∙ ap (states_of (rows_below text)) f) ∙ sym (rw e refl)
+
+  pub in_ambiguous : k ≡ 16 → p ≡ ambiguous_at (split 32 bytes) → p ≡ place_in text k n bytes
+  unfolding place_in
+  in_ambiguous e g = g ∙ sym (rw e refl)
+
+pub in_none : (text bytes : List ℕ) (k n : ℕ) → (k ≡ 11 → ⊥) → (k ≡ 12 → ⊥) → (k ≡ 13 → ⊥) → (k ≡ 14 → ⊥) → (k ≡ 15 → ⊥) → (k ≡ 16 → ⊥)
+    → 0 ≡ place_in text k n bytes
+unfolding place_in
+in_none text bytes k n a b c d e f = sym (rw (ne_eqb k 11 a, ne_eqb k 12 b, ne_eqb k 13 c, ne_eqb k 14 d, ne_eqb k 15 e, ne_eqb k 16 f) refl)
+
+pub ruleset in_kit = (in_malformed, in_header, in_order, in_rule, in_straying, in_ambiguous, in_none)
 
 -- ---- a line by its number
 
-module _ (text : List ℕ) (k n : ℕ) (r : LineFound) (given : r ≡ found_line 240 text n) where
-  pub line_broken : (p : ℕ) → r ≡ Broken p → p ≡ ranked_at 240 (line_at text n) (place_in text k n (line_at text n).bytes)
+module _ (text : List ℕ) (k n : ℕ) (r : Result (ℕ × ℕ) ℕ) (given : r ≡ found_line 240 text n) where
+  pub line_broken : (p : ℕ) → r ≡ Err p → p ≡ ranked_at 240 (line_at text n) (place_in text k n (line_at text n).bytes)
   line_broken p e = ranked_broken 240 text n r given p (place_in text k n (line_at text n).bytes) e
 
-  module _ (x y : ℕ) (q : r ≡ Whole x y) where
+  module _ (x y : ℕ) (q : r ≡ Ok (x, y)) where
     pub line_whole : (v : ℕ) → v ≡ place_in text k n (take (y - x) (drop x text))
         → v ≡ ranked_at 240 (line_at text n) (place_in text k n (line_at text n).bytes)
     line_whole v e = ranked_whole 240 text n r given x y q (place_in text k n) v e

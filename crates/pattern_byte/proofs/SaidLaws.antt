@@ -12,9 +12,8 @@ use lib.ListN.{length, get_or, take, drop, length-drop}
 use Rattle.lists.proofs.Parts.{rest_part}
 use Rattle.text.specs.Split.{split, first_part}
 use Rattle.text.proofs.SplitLaws.{split_empty, first_short}
+use Rattle.std.specs.Prelude.{Option, Some, None}
 use Rattle.fields.specs.Fields.{field_of}
-use Rattle.fields.specs.declared.Field.{Field}
-use Rattle.fields.specs.declared.Field.TheVariants.{At, Missing}
 use Rattle.fields.proofs.FoundLaws.{found_none, found_ordered, found_inside, found_bytes}
 use Rattle.line_places.specs.Place.{lines_bytes, line_at}
 use Rattle.line_places.proofs.LineLaws.{line_bytes, bytes_none, bytes_step}
@@ -25,23 +24,15 @@ use Rattle.pattern_byte.specs.Byte.{labels_named, rows_below, row_before}
 
 -- ---- the labels that the header names
 
-pub labels_few : (l : List ℕ) (n : ℕ) → n ≡ length (split 32 l) → n < 4 → 0 ≡ length (split 32 l) - 4
-labels_few l n e h = omega arith
-
-pub labels_some : (l : List ℕ) (n : ℕ) → n ≡ length (split 32 l) → 4 ≤ n → n - 4 ≡ length (split 32 l) - 4
-labels_some l n e h = omega arith
-
-pub ruleset count_kit = (labels_few, labels_some)
-
-module _ (text : List ℕ) (r : Field) (given : r ≡ field_of 10 text 0) where
-  pub labels_missing : r ≡ Missing → 0 ≡ labels_named text
+module _ (text : List ℕ) (r : Option (ℕ × ℕ)) (given : r ≡ field_of 10 text 0) where
+  pub labels_missing : r ≡ None → 0 ≡ labels_named text
   unfolding labels_named
   labels_missing p =
       let e = line_bytes text 1 ∙ found_none 10 text 0 r given p in
       let k = ap (λ (m : List ℕ). length (split 32 m)) e ∙ ap length (split_empty 32) in
       omega arith
 
-  pub labels_there : (x y : ℕ) → r ≡ At x y → (n : ℕ) → n ≡ length (split 32 (take (y - x) (drop x text))) - 4 → n ≡ labels_named text
+  pub labels_there : (x y : ℕ) → r ≡ Some (x, y) → (n : ℕ) → n ≡ length (split 32 (take (y - x) (drop x text))) - 4 → n ≡ labels_named text
   unfolding labels_named
   labels_there x y p n e =
       e ∙ ap (λ (m : List ℕ). length (split 32 m) - 4) (found_bytes 10 text 0 r given x y p ∙ sym (line_bytes text 1))
@@ -59,7 +50,7 @@ module _ (text bytes : List ℕ) (n : ℕ) where
   unfolding row_before
   order_first d h p e = e ∙ sym (rw (ne_eqb n 1 d, lt-ltb n 3 h) refl)
 
-  module _ (d : n ≡ 1 → ⊥) (h : 3 ≤ n) (r : Field) (given : r ≡ field_of 10 text (n - 2)) where
+  module _ (d : n ≡ 1 → ⊥) (h : 3 ≤ n) (r : Option (ℕ × ℕ)) (given : r ≡ field_of 10 text (n - 2)) where
     before_bytes : (line_at text (n - 1)).bytes ≡ get_or (split 10 text) (n - 2) []
     before_bytes =
         let e : n - 1 - 1 ≡ n - 2 = omega arith in
@@ -72,11 +63,11 @@ module _ (text bytes : List ℕ) (n : ℕ) where
         e ∙ ap (λ (m : List ℕ). disordered_at (row_of (split 32 m) ∷ []) (split 32 bytes)) (f ∙ sym before_bytes)
         ∙ sym (rw (ne_eqb n 1 d, le-ltb n 3 h) refl)
 
-    pub order_missing : r ≡ Missing → (p : ℕ) → p ≡ disordered_at (row_of (split 32 []) ∷ []) (split 32 bytes)
+    pub order_missing : r ≡ None → (p : ℕ) → p ≡ disordered_at (row_of (split 32 []) ∷ []) (split 32 bytes)
         → p ≡ cond (eqb n 1) 0 (disordered_at (row_before text n) (split 32 bytes))
     order_missing q p e = after [] (sym (found_none 10 text (n - 2) r given q)) p e
 
-    pub order_next : (x y : ℕ) → r ≡ At x y → (p : ℕ) → p ≡ disordered_at (row_of (split 32 (take (y - x) (drop x text))) ∷ []) (split 32 bytes)
+    pub order_next : (x y : ℕ) → r ≡ Some (x, y) → (p : ℕ) → p ≡ disordered_at (row_of (split 32 (take (y - x) (drop x text))) ∷ []) (split 32 bytes)
         → p ≡ cond (eqb n 1) 0 (disordered_at (row_before text n) (split 32 bytes))
     order_next x y q p e = after (take (y - x) (drop x text)) (found_bytes 10 text (n - 2) r given x y q) p e
 

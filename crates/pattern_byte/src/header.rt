@@ -5,10 +5,11 @@ ghost use Rattle.pattern_byte.specs.Header.{header_text_at};
 use fields::first_length;
 
 // 0 where it is not one line with its newline; else as where a reader refuses that line as a header.
+#[tactic(auto, using(crate::proofs::HeaderLaws::header_kit))]
 pub fn header_byte(header: &[u8]) -> u16
     ensures { result ≡ header_text_at header.now }
 {
-    let n = first_length(header, 10);
+    let n = first_length(header, b'\n');
     if n + 1 != header.len() {
         return 0;
     }

@@ -6,72 +6,35 @@
 // has six numbers more than the format uses.
 #![tactic(auto)]
 
-use answer::Answer;
-use std::io;
 use std::rt::Files;
+use std::{fs, io};
+use trial::column;
 
 fn main(rt: HostRuntime) -> io::Result<()> {
-    try_file(&rt, b"cases.txt")?;
-    try_file(&rt, b"finals.txt")
+    try_file(&rt, "cases.txt")?;
+    try_file(&rt, "finals.txt")
 }
 
-fn try_file(rt: &(impl Files + Print), path: &[u8]) -> io::Result<()> {
-    let mut file = [0u8; 32768];
-    let n = trial::load(rt, path, &mut file);
-    try_cases(rt, &file[..n])
-}
-
-fn try_cases(rt: &impl Print, file: &[u8]) -> io::Result<()> {
-    let mut counts = [0u16; 32];
-    let mut at = 0;
-    while at < file.len() {
-        let end = trial::find_byte(file, at, b'\n');
-        let number = try_case(rt, trial::part(file, at, end))?;
-        outcome::tally(&mut counts, number);
-        at = end + 1;
+fn try_file(rt: &(impl Files + Print + AllocGlobal), path: &str) -> io::Result<()> {
+    let file = fs::read_to_string(rt, path)?;
+    let mut tally = outcome::Tally::new(rt.alloc());
+    for line in file.lines() {
+        tally.add(try_case(rt, line)?)?;
     }
-    outcome::print_tally(rt, &counts)
+    print!(rt; "{tally}")
 }
 
 // The answer's numbers, and what the call left in the buffer.
-fn try_case(rt: &impl Print, line: &[u8]) -> io::Result<u16> {
-    let mut buffer = [0u16; 2080];
-    outcome::mark(&mut buffer);
-    let a = read_case(line, &mut buffer);
-    outcome::print_answer(
-        rt,
-        trial::column(line, 0),
-        a.number,
-        a.line,
-        a.byte,
-        a.count,
-    )?;
-    outcome::print_buffer(rt, a.number, &buffer)?;
-    print_final(rt, trial::small_number(trial::column(line, 3)), &buffer)?;
-    outcome::print_line(rt, b"")?;
-    Ok(a.number)
-}
-
-// The final set of the bead, where there is one.
-fn print_final(rt: &impl Print, bead: u16, buffer: &[u16]) -> io::Result<()> {
-    if bead > 0 {
-        outcome::print_after(rt, b", final set ", trial::get(buffer, 17 + bead as usize))?;
+fn try_case(rt: &(impl Print + AllocGlobal), line: &str) -> io::Result<u16> {
+    let text = script::expand(rt.alloc(), column(line, 1), 17000)?;
+    let call = |pattern: &mut [u16]| pattern::read_pattern(&text, pattern);
+    let (answer, pattern) = outcome::try_marked(rt, column(line, 0), 2080, column(line, 2), call)?;
+    if let Ok(bead) = column(line, 3).parse::<u8>() {
+        print!(rt;
+            ", final set {}",
+            trial::get(&pattern, 17 + usize::from(bead))
+        )?;
     }
-    Ok(())
-}
-
-fn read_case(line: &[u8], buffer: &mut [u16]) -> Answer {
-    let mut text = [0u8; 17000];
-    let n = script::expand(trial::column(line, 1), &mut text);
-    read_front(
-        &text[..n],
-        buffer,
-        trial::small_number(trial::column(line, 2)),
-    )
-}
-
-// Lends the first numbers of the buffer, all of them where `lent` is 0.
-fn read_front(text: &[u8], buffer: &mut [u16], lent: u16) -> Answer {
-    let n = trial::lent(lent, buffer.len());
-    pattern::read_pattern(text, &mut buffer[..n])
+    println!(rt)?;
+    Ok(answer.number)
 }

@@ -3,7 +3,7 @@
 -- Assumes nothing.
 use Prim.Native.Nat.{ℕ, zero, suc, ◌+◌, ◌-◌, ◌≤◌, ◌<◌}
 use mathlib.Core.Path.{◌≡◌, refl, sym, ap, ◌∙◌, subst}
-use mathlib.Core.Bool.{Bool, true, false, not, cond, ◌&&◌, ◌||◌}
+use mathlib.Core.Bool.{and-true, Bool, true, false, not, cond, ◌&&◌, ◌||◌}
 use mathlib.Core.List.{List, [], ◌∷◌, ◌++◌, map}
 use native.Mathlib.Omega.{arith}
 use borrow.Author.Tests.{lt-ltb, le-ltb, le-leb, ltb-true, ltb-false, leb-true, eq-eqb, ne_eqb, eqb-true, eqb-false, not-true, not-false}
@@ -88,7 +88,6 @@ eqb_turned a b = go (eqb a b) refl
     go false e = sym (ne_eqb b a (λ k. eqb-false a b e (sym k)))
 
 same_turned : (a b : List ℕ) → same_bytes a b ≡ same_bytes b a
-unfolding same_bytes
 same_turned [] [] = refl
 same_turned [] (y ∷ ys) = refl
 same_turned (x ∷ xs) [] = refl
@@ -134,6 +133,15 @@ names_first : (p : List ℕ) (ps : List (List ℕ)) → are_names (p ∷ ps) ≡
 unfolding are_names
 names_first p ps = refl
 
+each_column : (fs : List (List ℕ))
+    → same_fields (take 4 fs) columns
+    ≡ (same_bytes (get_or fs 0 []) (get_or columns 0 []) && (same_bytes (get_or fs 1 []) (get_or columns 1 [])
+    && (same_bytes (get_or fs 2 []) (get_or columns 2 []) && same_bytes (get_or fs 3 []) (get_or columns 3 []))))
+each_column fs =
+    sym (columns_by_field fs)
+    ∙ ap (λ (t : Bool). same_bytes (get_or fs 0 []) (get_or columns 0 []) && (same_bytes (get_or fs 1 []) (get_or columns 1 []) && (same_bytes (get_or fs 2 []) (get_or columns 2 []) && t)))
+    (and-true (same_bytes (get_or fs 3 []) (get_or columns 3 [])))
+
 module _ (fs : List (List ℕ)) where
   abbrev column_at : ℕ → Bool
   column_at i = same_bytes (get_or fs i []) (get_or columns i [])
@@ -145,7 +153,7 @@ module _ (fs : List (List ℕ)) where
   named = are_names (drop 4 fs) && distinct (drop 4 fs)
 
   column_right : same_fields (take 4 fs) columns ≡ true → (i : ℕ) → i < 4 → column_at i ≡ true
-  column_right e i h = go i h (sym (columns_by_field fs) ∙ e)
+  column_right e i h = go i h (sym (each_column fs) ∙ e)
     where
       go : (i : ℕ) → i < 4 → (column_at 0 && (column_at 1 && (column_at 2 && column_at 3))) ≡ true → column_at i ≡ true
       go zero h q = and_left (column_at 0) (column_at 1 && (column_at 2 && column_at 3)) q
@@ -157,7 +165,7 @@ module _ (fs : List (List ℕ)) where
       go (suc (suc (suc (suc i)))) h q = absurd (omega arith)
 
   columns_right : ((i : ℕ) → i < 4 → column_at i ≡ true) → same_fields (take 4 fs) columns ≡ true
-  columns_right f = columns_by_field fs ∙ rw (f 0 (omega arith), f 1 (omega arith), f 2 (omega arith), f 3 (omega arith)) refl
+  columns_right f = each_column fs ∙ rw (f 0 (omega arith), f 1 (omega arith), f 2 (omega arith), f 3 (omega arith)) refl
 
   -- In a header no name is wrong.
   header_names : is_header fs ≡ true → (i : ℕ) → i < length fs → wrong_name fs i ≡ false

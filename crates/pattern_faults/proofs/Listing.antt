@@ -165,7 +165,7 @@ unfolding cases
 cases_count = refl
 
 pub bytes : map (λ c. pattern_byte c.text c.number c.line) cases ≡ map (λ c. c.byte) cases
-unfolding cases header header2 row pattern_byte place_in labels_named rows_below row_before ranked_at place_at unprintable_place lines_bytes leftmost_from part_start wrong_name no_number bead_wrong state_wrong disordered_at stray_set ambiguous_set as_lines split printable same_bytes digits value_from decimal name_bytes among states_of members_from
+unfolding cases header header2 row pattern_byte place_in labels_named rows_below row_before ranked_at place_at unprintable_place lines_bytes leftmost_from part_start wrong_name no_number bead_wrong state_wrong disordered_at stray_set ambiguous_set as_lines split printable digits value_from decimal name_bytes among states_of members_from
 bytes = refl
 
 -- Their numbers and lines are those that the format says.
@@ -178,5 +178,5 @@ fault_of (accepted k) = record { number = 0; line = 0 }
 fault_of (faulty n l) = record { number = n; line = l }
 
 pub faults : map (λ c. fault_of (pattern_text c.text)) cases ≡ map (λ c. record { number = c.number; line = c.line }) cases
-unfolding cases header header2 row walk as_lines split printable same_bytes digits value_from decimal same_fields name_bytes are_names among distinct are_numbers follows_last breaks_turns states_of all_within all_single members_from
+unfolding cases header header2 row walk as_lines split printable digits value_from decimal same_fields name_bytes are_names among distinct are_numbers follows_last breaks_turns states_of all_within all_single members_from
 faults = refl

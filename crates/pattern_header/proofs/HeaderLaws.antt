@@ -1,114 +1,37 @@
 -- The header, as the code tests it: byte by byte, field by field, and test by test.
 -- Assumes nothing.
 use mathlib.Core.Path.{◌≡◌, refl, sym, ap, ◌∙◌}
-use mathlib.Core.Bool.{Bool, true, false, not, cond, ◌&&◌, and-true, or-false}
+use mathlib.Core.Bool.{Bool, true, false, not, cond, ◌&&◌}
 use mathlib.Core.List.{List, [], ◌∷◌}
 use Prim.Native.Nat.{ℕ, ◌+◌, ◌-◌, ◌≤◌, ◌<◌}
 use native.Mathlib.Omega.{arith}
-use borrow.Author.Tests.{le-leb, lt-leb, not-true, not-false}
+use borrow.Author.Tests.{not-true, not-false}
 use lib.Dec.{leb}
 use lib.ListN.{length, get_or, take, drop, drop_of_length-le, length-drop}
 use lib.Seq.{drop-cons}
 use native.Mathlib.Numerals.{add-one}
-use Rattle.fields.specs.Fields.{field_of}
-use Rattle.fields.specs.declared.Field.{Field}
-use Rattle.fields.specs.declared.Field.TheVariants.{At, Missing}
 use Rattle.pattern_line.specs.Line.{fields_of, field_at}
-use Rattle.pattern_header.specs.Header.{columns, same_fields, name_byte, name_bytes, is_name, are_names, among, distinct, label_count}
+use Rattle.pattern_header.specs.Header.{columns, same_fields, is_name, are_names, among, distinct, is_header, label_count}
 use Rattle.pattern_line.specs.Answers.{refusal}
-use Rattle.pattern_header.specs.Answers.{header_judged}
-use Rattle.pattern_line.proofs.WordLaws.{absent, selects, ordered, inside}
+use Rattle.pattern_header.specs.Answers.{header_judged, header_said, header_numbers}
 use Rattle.pattern_line.proofs.Lists.{every_more, every_stop, every_end}
 use Rattle.fields.specs.Fields.{same_bytes}
-
--- ---- a name
-
-pub byte_low : (b : ℕ) → b < 48 → false ≡ name_byte b
-byte_low b h = simp (lt-leb 97 b (omega arith), lt-leb 48 b h)
-
-pub byte_digit : (b : ℕ) → 48 ≤ b → b ≤ 57 → true ≡ name_byte b
-byte_digit b h k = simp (lt-leb 97 b (omega arith), le-leb 48 b h, le-leb b 57 k)
-
-pub byte_between : (b : ℕ) → 48 ≤ b → 57 < b → b < 97 → false ≡ name_byte b
-byte_between b h k l = simp (lt-leb 97 b l, le-leb 48 b h, lt-leb b 57 k)
-
-pub byte_letter : (b : ℕ) → 57 < b → 97 ≤ b → leb b 122 ≡ name_byte b
-byte_letter b h k = simp (le-leb 97 b k, le-leb 48 b (omega arith), lt-leb b 57 h) (sym (or-false (leb b 122)))
-
-pub ruleset byte_kit = (byte_low, byte_digit, byte_between, byte_letter)
-
-name_bytes_none : name_bytes [] ≡ true
-unfolding name_bytes
-name_bytes_none = refl
-
-name_bytes_first : (b : ℕ) (bs : List ℕ) → name_bytes (b ∷ bs) ≡ (name_byte b && name_bytes bs)
-unfolding name_bytes
-name_bytes_first b bs = refl
-
-module _ (l : List ℕ) (i : ℕ) (inv : name_bytes l ≡ name_bytes (drop i l)) where
-  pub bytes_more : i < length l → (t : Bool) → t ≡ name_byte (get_or l i 0) → not t ≡ false → name_bytes l ≡ name_bytes (drop (i + 1) l)
-  bytes_more h t g e = every_more 0 name_byte name_bytes name_bytes_none name_bytes_first l i (name_bytes l) inv h (sym g ∙ not-false t e)
-
-  pub bytes_stop : i < length l → (t : Bool) → t ≡ name_byte (get_or l i 0) → not t ≡ true → false ≡ name_bytes l
-  bytes_stop h t g e = every_stop 0 name_byte name_bytes name_bytes_none name_bytes_first l i (name_bytes l) inv h (sym g ∙ not-true t e)
-
-  pub bytes_end : length l ≤ i → true ≡ name_bytes l
-  bytes_end h = every_end 0 name_byte name_bytes name_bytes_none name_bytes_first l i (name_bytes l) inv h
-
-pub ruleset bytes_kit = (bytes_more, bytes_stop, bytes_end)
-
-pub name_short : (l : List ℕ) → length l < 1 → false ≡ is_name l
-name_short l h = simp (lt-leb 1 (length l) h)
-
-pub name_long : (l : List ℕ) → 12 < length l → false ≡ is_name l
-name_long l h = simp (le-leb 1 (length l) (omega arith), lt-leb (length l) 12 h)
-
-pub name_right : (l : List ℕ) (t : Bool) → 1 ≤ length l → length l ≤ 12 → t ≡ name_bytes l → t ≡ is_name l
-name_right l t h k e = simp (le-leb 1 (length l) h, le-leb (length l) 12 k) e
-
-pub ruleset name_kit = (name_short, name_long, name_right)
-
--- ---- a field as a name
-
-module _ (line : List ℕ) (i : ℕ) (r : Field) (given : r ≡ field_of 32 line i) where
-  pub name_absent : r ≡ Missing → (t : Bool) → t ≡ is_name [] → t ≡ is_name (field_at line i)
-  name_absent p t e = e ∙ ap is_name (sym (absent line i r given p))
-
-  pub name_there : (from to : ℕ) → r ≡ At from to → (t : Bool) → t ≡ is_name (take (to - from) (drop from line)) → t ≡ is_name (field_at line i)
-  name_there from to p t e = e ∙ ap is_name (selects line i r given from to p).bytes
-
-pub ruleset field_kit = (ordered, inside, name_absent, name_there)
+use Rattle.std.specs.List.{list_all, range_with_len}
+use Rattle.std.specs.Prelude.{Ok, Err}
+use Rattle.layout.specs.Layout.{most_labels}
+use Rattle.pattern_line.specs.declared.refusals.Refusal.TheVariants.{Header}
 
 -- ---- the columns
 
-pub columns_by_field : (fs : List (List ℕ))
-    → same_fields (take 4 fs) columns
-    ≡ (same_bytes (get_or fs 0 []) (get_or columns 0 []) && (same_bytes (get_or fs 1 []) (get_or columns 1 [])
-    && (same_bytes (get_or fs 2 []) (get_or columns 2 []) && same_bytes (get_or fs 3 []) (get_or columns 3 []))))
-unfolding same_fields same_bytes
+pub columns_by_field : (fs : List (List ℕ)) → list_all (λ i. same_bytes (get_or fs i []) (get_or columns i [])) (range_with_len 0 4) ≡ same_fields (take 4 fs) columns
+unfolding same_fields
 columns_by_field [] = refl
 columns_by_field (a ∷ []) = refl
 columns_by_field (a ∷ (b ∷ [])) = refl
 columns_by_field (a ∷ (b ∷ (c ∷ []))) = refl
-columns_by_field (a ∷ (b ∷ (c ∷ (d ∷ fs)))) = ap (λ (t : Bool). same_bytes a (get_or columns 0 []) && (same_bytes b (get_or columns 1 []) && (same_bytes c (get_or columns 2 []) && t))) (and-true (same_bytes d (get_or columns 3 [])))
+columns_by_field (a ∷ (b ∷ (c ∷ (d ∷ fs)))) = refl
 
-module _ (line : List ℕ) (t : Bool) (g : t ≡ same_bytes (field_at line 0) (get_or columns 0 [])) where
-  pub first_differs : not t ≡ true → false ≡ same_fields (take 4 (fields_of line)) columns
-  first_differs e = sym (columns_by_field (fields_of line) ∙ rw (sym g ∙ not-true t e) refl)
-
-  module _ (e : not t ≡ false) (u : Bool) (h : u ≡ same_bytes (field_at line 1) (get_or columns 1 [])) where
-    pub second_differs : not u ≡ true → false ≡ same_fields (take 4 (fields_of line)) columns
-    second_differs f = sym (columns_by_field (fields_of line) ∙ rw (sym g ∙ not-false t e, sym h ∙ not-true u f) refl)
-
-    module _ (f : not u ≡ false) (v : Bool) (k : v ≡ same_bytes (field_at line 2) (get_or columns 2 [])) where
-      pub third_differs : not v ≡ true → false ≡ same_fields (take 4 (fields_of line)) columns
-      third_differs m = sym (columns_by_field (fields_of line) ∙ rw (sym g ∙ not-false t e, sym h ∙ not-false u f, sym k ∙ not-true v m) refl)
-
-      pub fourth_decides : not v ≡ false → (w : Bool) → w ≡ same_bytes (field_at line 3) (get_or columns 3 [])
-          → w ≡ same_fields (take 4 (fields_of line)) columns
-      fourth_decides m w n = n ∙ sym (columns_by_field (fields_of line) ∙ rw (sym g ∙ not-false t e, sym h ∙ not-false u f, sym k ∙ not-false v m) refl)
-
-pub ruleset columns_kit = (first_differs, second_differs, third_differs, fourth_decides)
+pub ruleset columns_kit = (columns_by_field)
 
 -- ---- the labels
 
@@ -177,47 +100,35 @@ pub ruleset distinct_kit = (distinct_more, distinct_stop, distinct_end)
 
 -- ---- the whole header
 
-module _ (line : List ℕ) (t : Bool) (g : t ≡ same_fields (take 4 (fields_of line)) columns) where
-  pub header_columns : not t ≡ true → refusal 12 ≡ header_judged (fields_of line)
+module _ (fs : List (List ℕ)) (n : ℕ) (count : n ≡ length fs) where
+  pub header_is : (t u v : Bool) → t ≡ same_fields (take 4 fs) columns → u ≡ are_names (drop 4 fs) → v ≡ distinct (drop 4 fs)
+      → is_header fs ≡ (t && (leb 1 (n - 4) && (leb (n - 4) most_labels && (u && v))))
+  header_is t u v p q r = rw (p, q, r, count) (ap (λ (k : ℕ). same_fields (take 4 fs) columns && (leb 1 k && (leb k most_labels && (are_names (drop 4 fs) && distinct (drop 4 fs))))) (length-drop 4 fs))
+
+pub ruleset header_kit = (header_is)
+
+-- The answer in numbers is the one that the definition in numbers gives.
+pub header_judged_said : (fs : List (List ℕ)) → header_said (header_judged fs) ≡ header_numbers fs
+unfolding header_judged header_numbers
+header_judged_said fs = go (is_header fs)
+  where
+    go : (t : Bool) → header_said (cond t (Ok (label_count fs)) (Err Header)) ≡ cond t (header_said (Ok (label_count fs))) (refusal 12)
+    go true = refl
+    go false = refl
+
+module _ (line other : List ℕ) (same : other ≡ line) (t : Bool) (g : t ≡ is_header (fields_of other)) where
+  pub header_right : t ≡ true → (n : ℕ) → n ≡ length (fields_of other) → Ok (n - 4) ≡ header_judged (fields_of line)
   unfolding header_judged
-  header_columns e = sym (rw (sym g ∙ not-true t e) refl)
+  header_right e n count = let q : is_header (fields_of line) ≡ true = sym (rw (sym same) g) ∙ e in rw (q, count, same) refl
 
-  module _ (e : not t ≡ false) (n : ℕ) (count : n ≡ length (fields_of line)) where
-    labels : length (drop 4 (fields_of line)) ≡ n - 4
-    labels = length-drop 4 (fields_of line) ∙ ap (λ (k : ℕ). k - 4) (sym count)
+  pub header_wrong : t ≡ false → Err Header ≡ header_judged (fields_of line)
+  unfolding header_judged
+  header_wrong e = let q : is_header (fields_of line) ≡ false = sym (rw (sym same) g) ∙ e in rw q refl
 
-    pub header_bare : n < 5 → refusal 12 ≡ header_judged (fields_of line)
-    unfolding header_judged
-    header_bare h = sym (rw (sym g ∙ not-false t e, lt-leb 1 (length (drop 4 (fields_of line))) (let l = labels in omega arith)) refl)
+  pub header_right_said : t ≡ true → (n : ℕ) → n ≡ length (fields_of other) → header_said (Ok (n - 4)) ≡ header_numbers (fields_of line)
+  header_right_said e n count = ap header_said (header_right e n count) ∙ header_judged_said (fields_of line)
 
-    pub header_crowded : 20 < n → refusal 12 ≡ header_judged (fields_of line)
-    unfolding header_judged
-    header_crowded h =
-        sym (rw (
-          sym g ∙ not-false t e,
-          le-leb 1 (length (drop 4 (fields_of line))) (let l = labels in omega arith),
-          lt-leb (length (drop 4 (fields_of line))) 16 (let l = labels in omega arith),
-        ) refl)
+  pub header_wrong_said : t ≡ false → refusal 12 ≡ header_numbers (fields_of line)
+  header_wrong_said e = ap header_said (header_wrong e) ∙ header_judged_said (fields_of line)
 
-    module _ (low : 5 ≤ n) (high : n ≤ 20) (u : Bool) (k : u ≡ are_names (drop 4 (fields_of line))) where
-      sized : header_judged (fields_of line)
-          ≡ cond (are_names (drop 4 (fields_of line)) && distinct (drop 4 (fields_of line))) (record { number = 0; values = label_count (fields_of line) ∷ [] }) (refusal 12)
-      unfolding header_judged
-      sized =
-          rw (
-            sym g ∙ not-false t e,
-            le-leb 1 (length (drop 4 (fields_of line))) (let l = labels in omega arith),
-            le-leb (length (drop 4 (fields_of line))) 16 (let l = labels in omega arith),
-          ) refl
-
-      pub header_unnamed : not u ≡ true → refusal 12 ≡ header_judged (fields_of line)
-      header_unnamed m = sym (sized ∙ rw (sym k ∙ not-true u m) refl)
-
-      module _ (m : not u ≡ false) (v : Bool) (d : v ≡ distinct (drop 4 (fields_of line))) where
-        pub header_repeats : not v ≡ true → refusal 12 ≡ header_judged (fields_of line)
-        header_repeats w = sym (sized ∙ rw (sym k ∙ not-false u m, sym d ∙ not-true v w) refl)
-
-        pub header_right : not v ≡ false → record { number = 0; values = (n - 4) ∷ [] } ≡ header_judged (fields_of line)
-        header_right w = sym (sized ∙ rw (sym k ∙ not-false u m, sym d ∙ not-false v w) (ap (λ (x : ℕ). record { number = 0; values = (x - 4) ∷ [] }) (sym count)))
-
-pub ruleset header_kit = (header_columns, header_bare, header_crowded, header_unnamed, header_repeats, header_right)
+pub ruleset judged_kit = (header_right, header_wrong, header_right_said, header_wrong_said)

@@ -1,5 +1,6 @@
 -- The first line of a pattern: `bead rule state final`, then 1 to 16 distinct label names of 1 to 12 lower-case letters or digits.
 use Rattle.std.specs.Prelude.{ℕ, ◌-◌, Bool, true, false, not, ◌&&◌, ◌||◌, List, [], ◌∷◌, leb, length, take, drop}
+use Rattle.std.specs.List.{list_all}
 use Rattle.layout.specs.Layout.{most_name, most_labels}
 use Rattle.fields.specs.Fields.{same_bytes}
 
@@ -23,15 +24,13 @@ abbrev pub name_byte : ℕ → Bool
 name_byte b = (leb 97 b && leb b 122) || (leb 48 b && leb b 57)
 
 unfoldable pub name_bytes : List ℕ → Bool
-name_bytes [] = true
-name_bytes (b ∷ bs) = name_byte b && name_bytes bs
+name_bytes bs = list_all name_byte bs
 
 abbrev pub is_name : List ℕ → Bool
 is_name p = leb 1 (length p) && (leb (length p) most_name && name_bytes p)
 
 unfoldable pub are_names : List (List ℕ) → Bool
-are_names [] = true
-are_names (p ∷ ps) = is_name p && are_names ps
+are_names ps = list_all is_name ps
 
 -- The field stands among the others.
 unfoldable pub among : List ℕ → List (List ℕ) → Bool

@@ -1,173 +1,118 @@
 // The first line of a pattern.
 #![tactic(auto)]
 
-ghost use Rattle.std.specs.Prelude.{◌≡◌, ◌+◌, take, drop};
+ghost use Rattle.std.specs.Prelude.{◌≡◌, ◌+◌, take, drop, get_or, []};
 ghost use Rattle.pattern_line.specs.Line.{fields_of, field_at};
-ghost use Rattle.pattern_header.specs.Header.{columns, same_fields, name_byte, name_bytes, is_name, are_names, among, distinct};
-ghost use Rattle.pattern_header.specs.Answers.{header_said, header_judged};
-ghost use Rattle.fields.specs.Fields.{Marked};
+ghost use Rattle.pattern_header.specs.Header.{columns, same_fields, name_bytes, is_name, are_names, among, distinct, is_header};
+ghost use Rattle.pattern_header.specs.Answers.{header_judged, header_said, header_numbers};
 
-use fields::Field;
+use fields::Fields;
 use pattern_line::refusals::Refusal;
-use pattern_line::words::{same_fields, word_at};
 
-// How many labels the header names, or why it is refused.
-#[derive(Clone, Copy)]
-pub enum HeaderAnswer {
-    Labels(u16),
-    Refused(Refusal),
-}
+// The names of the first four fields.
+const COLUMNS: [&[u8]; 4] = [b"bead", b"rule", b"state", b"final"];
 
-// Is it a lower-case letter or a digit?
-fn name_byte(b: u8) -> bool
-    ensures { result ≡ name_byte b }
+// The format's name for the field with this index. There are four; past them a name counts as empty.
+pub fn column(index: usize) -> &'static [u8]
+    ensures { result.now ≡ get_or columns index [] }
 {
-    if b < 48 {
-        return false;
+    if index < COLUMNS.len() {
+        COLUMNS[index]
+    } else {
+        b""
     }
-    if b <= 57 {
-        return true;
-    }
-    if b < 97 {
-        return false;
-    }
-    b <= 122
 }
 
+// Are all bytes lower-case letters or digits?
+#[tactic(auto, unfolding(crate::specs::Header::name_bytes))]
 fn name_bytes(bytes: &[u8]) -> bool
     ensures { result ≡ name_bytes bytes.now }
 {
-    let mut i = 0;
-    while i < bytes.len() {
-        if !name_byte(bytes[i]) {
-            return false;
-        }
-        i += 1;
-    }
-    true
+    bytes
+        .iter()
+        .all(|b| b.is_ascii_lowercase() || b.is_ascii_digit())
 }
 
 // Is it a label's name: 1 to 12 lower-case letters or digits?
-fn is_name(field: &[u8]) -> bool
+pub fn is_name(field: &[u8]) -> bool
     ensures { result ≡ is_name field.now }
 {
-    if field.len() < 1 {
-        return false;
-    }
-    if field.len() > layout::MOST_NAME {
-        return false;
-    }
-    name_bytes(field)
-}
-
-// Is the field with this index a label's name?
-pub fn name_at(line: &[u8], marks: &[usize], index: usize) -> bool
-    requires { Marked 32 line.now marks.now }
-    ensures { result ≡ is_name (field_at line.now index) }
-{
-    match fields::marked_field(line, 32, marks, index) {
-        Field::Missing => false,
-        Field::At(from, to) => is_name(&line[from..to]),
-    }
+    (1..=layout::MOST_NAME).contains(&field.len()) && name_bytes(field)
 }
 
 // Are the first four fields `bead`, `rule`, `state` and `final`?
-fn has_columns(line: &[u8], marks: &[usize]) -> bool
-    requires { Marked 32 line.now marks.now }
-    ensures { result ≡ same_fields (take 4 (fields_of line.now)) columns }
+#[tactic(auto, using(crate::proofs::HeaderLaws::columns_kit))]
+fn has_columns(fields: &Fields<24>) -> bool
+    ensures { result ≡ same_fields (take 4 (fields_of fields.now.line.now)) columns }
 {
-    if !word_at(line, marks, 0, b"bead") {
-        return false;
-    }
-    if !word_at(line, marks, 1, b"rule") {
-        return false;
-    }
-    if !word_at(line, marks, 2, b"state") {
-        return false;
-    }
-    word_at(line, marks, 3, b"final")
+    (0..4).all(|i| fields.field(i) == column(i))
 }
 
-// Are all fields after those four names?
-fn are_names(line: &[u8], marks: &[usize]) -> bool
-    requires { Marked 32 line.now marks.now }
-    ensures { result ≡ are_names (drop 4 (fields_of line.now)) }
+// Are all fields after those four names? This and the two below are `for`: their definitions go over the fields that are left, a chain over
+// indexes would give numbers.
+#[tactic(auto, using(crate::proofs::HeaderLaws::names_kit))]
+fn are_names(fields: &Fields<24>) -> bool
+    ensures { result ≡ are_names (drop 4 (fields_of fields.now.line.now)) }
 {
-    let count = fields::marked_count(line, 32, marks);
-    let mut i = 4;
-    while i < count {
-        if !name_at(line, marks, i) {
+    for i in 4..fields.len() {
+        if !is_name(fields.field(i)) {
             return false;
         }
-        i += 1;
     }
     true
 }
 
 // Does the field stand among those after it?
-fn stands_again(line: &[u8], marks: &[usize], index: usize) -> bool
-    requires { Marked 32 line.now marks.now }
-    ensures { result ≡ among (field_at line.now index) (drop (index + 1) (fields_of line.now)) }
+#[tactic(auto, using(crate::proofs::HeaderLaws::among_kit))]
+fn stands_again(fields: &Fields<24>, index: usize) -> bool
+    ensures { result ≡ among (field_at fields.now.line.now index) (drop (index + 1) (fields_of fields.now.line.now)) }
 {
-    let count = fields::marked_count(line, 32, marks);
-    if index >= count {
+    if index >= fields.len() {
         return false;
     }
-    let mut i = index + 1;
-    while i < count {
-        if same_fields(line, marks, index, i) {
+    for i in index + 1..fields.len() {
+        if fields.field(index) == fields.field(i) {
             return true;
         }
-        i += 1;
     }
     false
 }
 
 // Are the fields after the first four distinct?
-fn are_distinct(line: &[u8], marks: &[usize]) -> bool
-    requires { Marked 32 line.now marks.now }
-    ensures { result ≡ distinct (drop 4 (fields_of line.now)) }
+#[tactic(auto, using(crate::proofs::HeaderLaws::distinct_kit))]
+fn are_distinct(fields: &Fields<24>) -> bool
+    ensures { result ≡ distinct (drop 4 (fields_of fields.now.line.now)) }
 {
-    let count = fields::marked_count(line, 32, marks);
-    let mut i = 4;
-    while i < count {
-        if stands_again(line, marks, i) {
+    for i in 4..fields.len() {
+        if stands_again(fields, i) {
             return false;
         }
-        i += 1;
     }
     true
 }
 
-// The answer for a line whose fields are marked.
-fn judge_marked(line: &[u8], marks: &[usize]) -> HeaderAnswer
-    requires { Marked 32 line.now marks.now }
-    ensures { header_said result ≡ header_judged (fields_of line.now) }
+// Is the line a header?
+#[tactic(auto, using(crate::proofs::HeaderLaws::header_kit))]
+fn is_header(fields: &Fields<24>) -> bool
+    ensures { result ≡ is_header (fields_of fields.now.line.now) }
 {
-    if !has_columns(line, marks) {
-        return HeaderAnswer::Refused(Refusal::Header);
-    }
-    let count = fields::marked_count(line, 32, marks);
-    if count < 5 {
-        return HeaderAnswer::Refused(Refusal::Header);
-    }
-    if count > 20 {
-        return HeaderAnswer::Refused(Refusal::Header);
-    }
-    if !are_names(line, marks) {
-        return HeaderAnswer::Refused(Refusal::Header);
-    }
-    if !are_distinct(line, marks) {
-        return HeaderAnswer::Refused(Refusal::Header);
-    }
-    HeaderAnswer::Labels((count - 4) as u16)
+    let labels = fields.len().saturating_sub(4);
+    has_columns(fields)
+        && (1..=layout::MOST_LABELS).contains(&labels)
+        && are_names(fields)
+        && are_distinct(fields)
 }
 
-// The line is split once.
-pub fn read_header(line: &[u8]) -> HeaderAnswer
-    ensures { header_said result ≡ header_judged (fields_of line.now) }
+// How many labels the header names, or why it is refused. The line is split once.
+#[tactic(auto, using(crate::proofs::HeaderLaws::judged_kit))]
+pub fn read_header(line: &[u8]) -> Result<u16, Refusal>
+    ensures value { result ≡ header_judged (fields_of line.now) }
+    ensures said { header_said result ≡ header_numbers (fields_of line.now) }
 {
-    let mut marks = [0usize; 24];
-    fields::mark_fields(line, 32, &mut marks);
-    judge_marked(line, &marks)
+    let fields: Fields<24> = Fields::split(line);
+    if is_header(&fields) {
+        Ok((fields.len() - 4) as u16)
+    } else {
+        Err(Refusal::Header)
+    }
 }

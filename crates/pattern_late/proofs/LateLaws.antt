@@ -7,6 +7,8 @@ use Prim.Native.Nat.{ℕ, suc, ◌+◌, ◌-◌, ◌*◌, ◌/◌, ◌%◌, ◌�
 use native.Mathlib.Omega.{arith}
 use borrow.Author.Tests.{eq-eqb, ne_eqb, lt-ltb, le-ltb, not-true, not-false}
 use lib.ListN.{length, get_or, take, drop}
+use Rattle.std.specs.Prelude.{Result, Ok, Err}
+use Rattle.std.specs.List.{list_all}
 use Rattle.text.proofs.WalkLaws.{walk_nil, walk_cons}
 use Rattle.sets.specs.Sets.{within, single, cons_if}
 use Rattle.text.specs.Walk.{Judged, refused, passed, Outcome, accepted, faulty, proceed, walk}
@@ -14,52 +16,6 @@ use Rattle.pattern_store.specs.Next.{all_within, all_single}
 use Rattle.pattern_line.specs.Answers.{refusal_number}
 use Rattle.pattern_late.specs.Late.{Bounded, sets_at, judge_slot, has_state, slots_from, late_faults, slot_said}
 use Rattle.pattern_line.specs.declared.refusals.Refusal.{Refusal}
-use Rattle.pattern_late.specs.declared.SlotAnswer.{SlotAnswer}
-use Rattle.pattern_late.specs.declared.SlotAnswer.TheVariants.{Fine, Refused}
-use Rattle.pattern_line.proofs.Lists.{every_more, every_stop, every_end}
-
--- ---- every set of a list
-
-within_none : (n : ℕ) → all_within n [] ≡ true
-unfolding all_within
-within_none n = refl
-
-within_first : (n s : ℕ) (ss : List ℕ) → all_within n (s ∷ ss) ≡ (within n s && all_within n ss)
-unfolding all_within
-within_first n s ss = refl
-
-single_none : all_single [] ≡ true
-unfolding all_single
-single_none = refl
-
-single_first : (s : ℕ) (ss : List ℕ) → all_single (s ∷ ss) ≡ (single 16 s && all_single ss)
-unfolding all_single
-single_first s ss = refl
-
-module _ (l : List ℕ) (i : ℕ) where
-  module _ (n : ℕ) (inv : all_within n l ≡ all_within n (drop i l)) where
-    pub within_more : i < length l → (t : Bool) → t ≡ within n (get_or l i 0) → not t ≡ false → all_within n l ≡ all_within n (drop (i + 1) l)
-    within_more h t g e = every_more 0 (within n) (all_within n) (within_none n) (within_first n) l i (all_within n l) inv h (sym g ∙ not-false t e)
-
-    pub within_stop : i < length l → (t : Bool) → t ≡ within n (get_or l i 0) → not t ≡ true → false ≡ all_within n l
-    within_stop h t g e = every_stop 0 (within n) (all_within n) (within_none n) (within_first n) l i (all_within n l) inv h (sym g ∙ not-true t e)
-
-    pub within_end : length l ≤ i → true ≡ all_within n l
-    within_end h = every_end 0 (within n) (all_within n) (within_none n) (within_first n) l i (all_within n l) inv h
-
-  module _ (inv : all_single l ≡ all_single (drop i l)) where
-    pub single_more : i < length l → (t : Bool) → t ≡ single 16 (get_or l i 0) → not t ≡ false → all_single l ≡ all_single (drop (i + 1) l)
-    single_more h t g e = every_more 0 (single 16) all_single single_none single_first l i (all_single l) inv h (sym g ∙ not-false t e)
-
-    pub single_stop : i < length l → (t : Bool) → t ≡ single 16 (get_or l i 0) → not t ≡ true → false ≡ all_single l
-    single_stop h t g e = every_stop 0 (single 16) all_single single_none single_first l i (all_single l) inv h (sym g ∙ not-true t e)
-
-    pub single_end : length l ≤ i → true ≡ all_single l
-    single_end h = every_end 0 (single 16) all_single single_none single_first l i (all_single l) inv h
-
-pub ruleset within_kit = (within_more, within_stop, within_end)
-
-pub ruleset single_kit = (single_more, single_stop, single_end)
 
 -- ---- a slot
 
@@ -123,7 +79,7 @@ module _ (b : List ℕ) (line i : ℕ) (inv : late_faults b ≡ late_from b line
     late_skip k =
         inv ∙ ap (walk (judge_slot b) tt line) (next ∙ ap (λ (t : Bool). cons_if t i (slots_from b (128 - (i + 1)) (i + 1))) (le-ltb (i % 16) (get_or b (10 + i / 16) 0) (omega arith)))
 
-    module _ (k : i % 16 < w) (a : SlotAnswer) (said : slot_said a ≡ judge_slot b tt 0 i) where
+    module _ (k : i % 16 < w) (a : Result (Unit {0}) Refusal) (said : slot_said a ≡ judge_slot b tt 0 i) where
       here : late_faults b ≡ proceed line (slot_said a) (λ t. walk (judge_slot b) t (line + 1) (slots_from b (128 - (i + 1)) (i + 1)))
       unfolding late_from judge_slot
       here =
@@ -131,12 +87,12 @@ module _ (b : List ℕ) (line i : ℕ) (inv : late_faults b ≡ late_from b line
           ∙ walk_cons (judge_slot b) tt line i (slots_from b (128 - (i + 1)) (i + 1))
           ∙ ap (λ (j : Judged (Unit {0})). proceed line j (λ t. walk (judge_slot b) t (line + 1) (slots_from b (128 - (i + 1)) (i + 1)))) (sym said)
 
-      pub late_fault : (r : Refusal) → a ≡ Refused r → faulty (refusal_number r) line ≡ late_faults b
-      late_fault r p = sym (here ∙ ap (λ (x : SlotAnswer). proceed line (slot_said x) (λ t. walk (judge_slot b) t (line + 1) (slots_from b (128 - (i + 1)) (i + 1)))) p)
+      pub late_fault : (r : Refusal) → a ≡ Err r → faulty (refusal_number r) line ≡ late_faults b
+      late_fault r p = sym (here ∙ ap (λ (x : Result (Unit {0}) Refusal). proceed line (slot_said x) (λ t. walk (judge_slot b) t (line + 1) (slots_from b (128 - (i + 1)) (i + 1)))) p)
 
-      pub late_pass : a ≡ Fine → late_faults b ≡ late_from b (line + 1) (i + 1)
+      pub late_pass : (u : Unit {0}) → a ≡ Ok u → late_faults b ≡ late_from b (line + 1) (i + 1)
       unfolding late_from
-      late_pass p = here ∙ ap (λ (x : SlotAnswer). proceed line (slot_said x) (λ t. walk (judge_slot b) t (line + 1) (slots_from b (128 - (i + 1)) (i + 1)))) p
+      late_pass u p = here ∙ ap (λ (x : Result (Unit {0}) Refusal). proceed line (slot_said x) (λ t. walk (judge_slot b) t (line + 1) (slots_from b (128 - (i + 1)) (i + 1)))) p
 
 pub state_place : (b : List ℕ) (i : ℕ) → Bounded b → i < 128 → 10 + i / 16 < length b
 state_place b i f h = let s = f.size in omega arith

@@ -1,15 +1,13 @@
 -- 15 and 16 over the numbers of a pattern buffer: slot by slot, the slots in the order of the rows that they come from.
 -- The slot 16 j + q belongs to the state q of the bead with place j.
-use Rattle.std.specs.Prelude.{ℕ, zero, suc, ◌+◌, ◌*◌, ◌/◌, ◌%◌, ◌≤◌, ◌<◌, Bool, not, cond, ◌&&◌, List, [], eqb, ltb, length, get_or, take, drop}
+use Rattle.std.specs.Prelude.{ℕ, zero, suc, ◌+◌, ◌*◌, ◌/◌, ◌%◌, ◌≤◌, ◌<◌, Bool, not, cond, ◌&&◌, List, [], eqb, ltb, length, get_or, take, drop, Result, Ok, Err}
 use Rattle.sets.specs.Sets.{cons_if}
 use Rattle.text.specs.Walk.{Judged, refused, passed, Outcome, accepted, faulty, walk}
 use Rattle.layout.specs.Layout.{rule_at, states_at, pattern_length}
 use Rattle.pattern_store.specs.Next.{all_within, all_single}
 use Rattle.pattern_line.specs.Answers.{refusal_number}
-use Rattle.pattern_late.specs.declared.SlotAnswer.{SlotAnswer}
-use Rattle.pattern_late.specs.declared.SlotAnswer.TheVariants.{Fine as SlotFine, Refused as SlotRefused}
-use Rattle.pattern_late.specs.declared.LateAnswer.{LateAnswer}
-use Rattle.pattern_late.specs.declared.LateAnswer.TheVariants.{Fine as LateFine, Refused as LateRefused}
+use Rattle.pattern_line.specs.declared.refusals.Refusal.{Refusal}
+use Rattle.pattern_line.specs.declared.refusals.Fault.{Fault}
 
 -- A buffer of the right length with at most 16 labels, and at most 16 states a bead.
 pub record Bounded (b : List ℕ) : Type 0 where
@@ -42,10 +40,11 @@ slots_from b (suc d) i = cons_if (has_state b i) i (slots_from b d (i + 1))
 abbrev pub late_faults : List ℕ → Outcome (Unit {0})
 late_faults b = walk (judge_slot b) tt 2 (slots_from b 128 0)
 
-abbrev pub slot_said : SlotAnswer → Judged (Unit {0})
-slot_said SlotFine = passed tt
-slot_said (SlotRefused r) = refused (refusal_number r)
+-- The same from what the code answers.
+abbrev pub slot_said : Result (Unit {0}) Refusal → Judged (Unit {0})
+slot_said (Ok u) = passed tt
+slot_said (Err r) = refused (refusal_number r)
 
-abbrev pub late_said : LateAnswer → Outcome (Unit {0})
-late_said LateFine = accepted tt
-late_said (LateRefused r line) = faulty (refusal_number r) line
+abbrev pub late_said : Result (Unit {0}) Fault → Outcome (Unit {0})
+late_said (Ok u) = accepted tt
+late_said (Err f) = faulty (refusal_number f.refusal) f.line

@@ -1,106 +1,98 @@
-// The rows of a pattern buffer, put into a buffer of bytes: a line for each state of each bead.
+// The rows of a pattern buffer, put behind what an output has: a line for each state of each bead.
 // As in `writing`, no function asks for room.
 #![tactic(auto)]
 
-ghost use Rattle.std.specs.Prelude.{◌+◌, ◌^◌, ◌≤◌, ◌<◌, ◌≡◌, cond, ◌++◌, ◌∷◌, [], T, length, get_or};
-ghost use Rattle.sets.specs.Sets.{member};
+ghost use Rattle.std.specs.Prelude.{◌+◌, ◌^◌, ◌≤◌, ◌<◌, ◌++◌, ◌∷◌, [], T, length, get_or};
 ghost use Rattle.text.specs.Split.{line_from};
-ghost use Rattle.writing.specs.Put.{Put};
+ghost use Rattle.writing.specs.Put.{Adds};
 ghost use Rattle.layout.specs.Layout.{states_at};
 ghost use Rattle.pattern_buffer.specs.Meaning.{beads_in};
 ghost use Rattle.pattern_buffer.specs.Valid.{is_pattern};
 ghost use Rattle.pattern_texts.specs.Spelled.{row_in, rows_of_bead, rows_of, rule_word, fields_of, row_lines};
 ghost use Rattle.pattern_layout.specs.Parts.{row_start, row_end, StateOf};
 
-use writing::{put_byte, put_bytes, put_ended, put_listed, put_number};
+use writing::Output;
 
-// The rule's word and a space.
-fn put_rule(out: &mut [u8], at: usize, rule: u16) -> usize
-    requires { at + 5 < 2 ^ 64 }
-    ensures put { Put (rule_word rule ++ (32 ∷ [])) at out.old result out.new }
-    ensures upper_bound { result ≤ at + 5 }
+// The word of a rule, which is the buffer's number, and a space.
+#[tactic(auto, using(crate::proofs::LineLaws::rule_kit))]
+fn put_rule(output: &mut Output, rule: u16)
+    requires { output.old.at + 5 < 2 ^ 64 }
+    ensures put { Adds (rule_word rule ++ (32 ∷ [])) output.old output.new }
+    ensures upper_bound { output.new.at ≤ output.old.at + 5 }
 {
     if rule == 2 {
-        return put_bytes(out, at, b"ALL ");
+        output.put_bytes(b"ALL ");
+    } else {
+        output.put_bytes(b"SOME ");
     }
-    put_bytes(out, at, b"SOME ")
 }
 
 // Bead, rule and state, each with a space behind it.
-fn put_start(out: &mut [u8], at: usize, bead: u16, rule: u16, state: u16) -> usize
-    requires { at + 17 < 2 ^ 64 }
-    ensures put { Put (row_start bead rule state) at out.old result out.new }
-    ensures upper_bound { result ≤ at + 17 }
+#[tactic(auto, using(writing::proofs::PutLaws::kit))]
+fn put_start(output: &mut Output, bead: u16, rule: u16, state: u16)
+    requires { output.old.at + 17 < 2 ^ 64 }
+    ensures put { Adds (row_start bead rule state) output.old output.new }
+    ensures upper_bound { output.new.at ≤ output.old.at + 17 }
 {
-    let next = put_ended(out, at, bead, b' ');
-    let next = put_rule(out, next, rule);
-    put_ended(out, next, state, b' ')
+    output.put_ended(bead, b' ');
+    put_rule(output, rule);
+    output.put_ended(state, b' ');
 }
 
 // Final, the next sets, each behind a space, and the newline.
-fn put_end(out: &mut [u8], at: usize, accepting: u16, sets: &[u16]) -> usize
-    requires { (length sets.now ≤ 16) × (at + 102 < 2 ^ 64) }
-    ensures put { Put (row_end accepting sets.now) at out.old result out.new }
-    ensures upper_bound { result ≤ at + 102 }
+#[tactic(auto, using(writing::proofs::PutLaws::kit))]
+fn put_end(output: &mut Output, accepting: u16, sets: &[u16])
+    requires few_sets { length sets.now ≤ 16 }
+    requires at_bound { output.old.at + 102 < 2 ^ 64 }
+    ensures put { Adds (row_end accepting sets.now) output.old output.new }
+    ensures upper_bound { output.new.at ≤ output.old.at + 102 }
 {
-    let next = put_number(out, at, accepting);
-    let next = put_listed(out, next, b' ', sets);
-    put_byte(out, next, b'\n')
-}
-
-// 1 where the state is a member of the set, else 0.
-fn final_of(set: u16, q: u16) -> u16
-    requires { q < 16 }
-    ensures { result ≡ cond (member q set) 1 0 }
-{
-    if sets::member(set, q) {
-        return 1;
-    }
-    0
+    output.put_number(accepting);
+    output.put_listed(b' ', sets);
+    output.put_byte(b'\n');
 }
 
 // The line of the state q of the bead at place j.
-fn put_row(out: &mut [u8], at: usize, pattern: &[u16], j: u16, q: u16) -> usize
+#[tactic(auto, using(crate::proofs::LineLaws::place_kit))]
+fn put_row(output: &mut Output, pattern: &[u16], j: u16, q: u16)
     requires state_of { StateOf pattern.now j q }
-    requires at_bound { at + 119 < 2 ^ 64 }
-    ensures put { Put (line_from (fields_of (row_in pattern.now j q))) at out.old result out.new }
-    ensures upper_bound { result ≤ at + 119 }
+    requires at_bound { output.old.at + 119 < 2 ^ 64 }
+    ensures put { Adds (line_from (fields_of (row_in pattern.now j q))) output.old output.new }
+    ensures upper_bound { output.new.at ≤ output.old.at + 119 }
 {
-    let accepting = final_of(pattern[layout::FINAL_SETS + j as usize], q);
+    let bead = usize::from(j);
+    let accepting = sets::member(pattern[layout::FINAL_SETS + bead], q);
     let from = layout::NEXT_SETS
-        + layout::SETS_A_BEAD * j as usize
-        + layout::SETS_A_STATE * q as usize;
-    let labels = pattern[0];
-    let to = from + labels as usize;
-    let next = put_start(out, at, j + 1, pattern[layout::RULES + j as usize], q);
-    put_end(out, next, accepting, &pattern[from..to])
+        + layout::SETS_A_BEAD * bead
+        + layout::SETS_A_STATE * usize::from(q);
+    let labels = usize::from(pattern[0]);
+    put_start(output, j + 1, pattern[layout::RULES + bead], q);
+    put_end(output, u16::from(accepting), &pattern[from..from + labels]);
 }
 
 // The lines of the bead at place j, states upwards.
-fn put_bead(out: &mut [u8], at: usize, pattern: &[u16], j: u16) -> usize
-    requires t { T (is_pattern pattern.now) × (j < beads_in pattern.now) }
-    requires at_bound { at + 1904 < 2 ^ 64 }
-    ensures put { Put (row_lines (rows_of_bead pattern.now j (get_or pattern.now (states_at j) 0))) at out.old result out.new }
-    ensures upper_bound { result ≤ at + 1904 }
+#[tactic(auto, using(crate::proofs::RowLaws::bead_kit))]
+fn put_bead(output: &mut Output, pattern: &[u16], j: u16)
+    requires pattern_passes { T (is_pattern pattern.now) }
+    requires bead { j < beads_in pattern.now }
+    requires at_bound { output.old.at + 1904 < 2 ^ 64 }
+    ensures put { Adds (row_lines (rows_of_bead pattern.now j (get_or pattern.now (states_at j) 0))) output.old output.new }
+    ensures upper_bound { output.new.at ≤ output.old.at + 1904 }
 {
-    let states = pattern[layout::STATE_COUNTS + j as usize];
-    let mut next = at;
+    let states = pattern[layout::STATE_COUNTS + usize::from(j)];
     for q in 0..states {
-        next = put_row(out, next, pattern, j, q);
+        put_row(output, pattern, j, q);
     }
-    next
 }
 
 // The lines of all beads, upwards.
-pub fn put_beads(out: &mut [u8], at: usize, pattern: &[u16]) -> usize
-    requires t { T (is_pattern pattern.now) }
-    requires at_bound { at + 15232 < 2 ^ 64 }
-    ensures { Put (row_lines (rows_of pattern.now)) at out.old result out.new }
+#[tactic(auto, using(crate::proofs::RowLaws::beads_kit))]
+pub fn put_beads(output: &mut Output, pattern: &[u16])
+    requires pattern_passes { T (is_pattern pattern.now) }
+    requires at_bound { output.old.at + 15232 < 2 ^ 64 }
+    ensures { Adds (row_lines (rows_of pattern.now)) output.old output.new }
 {
-    let beads = pattern[1];
-    let mut next = at;
-    for j in 0..beads {
-        next = put_bead(out, next, pattern, j);
+    for j in 0..pattern[1] {
+        put_bead(output, pattern, j);
     }
-    next
 }

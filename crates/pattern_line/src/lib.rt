@@ -1,5 +1,4 @@
-// What the lines of a pattern share: the refusals, and the fields of a line by their index.
+// What the lines of a pattern share: the refusals, and where a text is refused.
 #![tactic(auto)]
 
 pub mod refusals;
-pub mod words;

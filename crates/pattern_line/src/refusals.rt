@@ -1,8 +1,8 @@
-// What the pattern's writer can be refused for.
+// What a pattern's text can be refused for.
 ghost use Rattle.std.specs.Prelude.{◌≡◌};
 ghost use Rattle.pattern_line.specs.Answers.{refusal_number};
 
-#[derive(Clone, Copy)]
+#[derive(Clone, Copy, Debug, PartialEq, Eq)]
 pub enum Refusal {
     // The text is empty or too long.
     Size,
@@ -21,16 +21,25 @@ pub enum Refusal {
 }
 
 // Document 01's number.
-pub fn number_of(refusal: Refusal) -> u16
-    ensures { result ≡ refusal_number refusal }
-{
-    match refusal {
-        Refusal::Size => 10,
-        Refusal::Malformed => 11,
-        Refusal::Header => 12,
-        Refusal::Order => 13,
-        Refusal::Rule => 14,
-        Refusal::NextState => 15,
-        Refusal::NextCount => 16,
+impl From<Refusal> for u16 {
+    ghost from_gives = { λ refusal number. number ≡ refusal_number refusal };
+
+    fn from(refusal: Refusal) -> u16 {
+        match refusal {
+            Refusal::Size => 10,
+            Refusal::Malformed => 11,
+            Refusal::Header => 12,
+            Refusal::Order => 13,
+            Refusal::Rule => 14,
+            Refusal::NextState => 15,
+            Refusal::NextCount => 16,
+        }
     }
+}
+
+// What a text is refused for, and in which line, from 1 on; 0 where it is no line's fault.
+#[derive(Clone, Copy, Debug, PartialEq, Eq)]
+pub struct Fault {
+    pub refusal: Refusal,
+    pub line: u16,
 }

@@ -1,41 +1,18 @@
 -- The header's names, as the code tests them one after the other.
 -- Assumes nothing.
-use mathlib.Core.Path.{◌≡◌, refl, sym, ap, ◌∙◌, subst}
+use mathlib.Core.Path.{◌≡◌, refl, sym, ap, ◌∙◌}
 use mathlib.Core.Bool.{Bool, true, false, not, ◌||◌, or-false}
 use mathlib.Core.List.{List, [], ◌∷◌}
 use Prim.Native.Nat.{ℕ, suc, ◌+◌, ◌-◌, ◌≤◌, ◌<◌}
 use native.Mathlib.Omega.{arith}
 use native.Mathlib.Numerals.{add-one}
 use borrow.Author.Tests.{lt-ltb, le-ltb}
-use lib.ListN.{length, get_or, take, drop, get_or-eq_default}
+use lib.Dec.{ltb}
+use lib.ListN.{length, get_or, take, drop}
 use lib.Seq.{drop-cons}
 use Rattle.fields.specs.Fields.{same_bytes}
 use Rattle.pattern_header.specs.Header.{columns, is_name, among}
 use Rattle.pattern_places.specs.Place.{labels_before, wrong_name}
-
--- ---- the four columns
-
-module _ (fs : List (List ℕ)) (i : ℕ) (t : Bool) where
-  at_column : (k : ℕ) → i ≡ k → t ≡ same_bytes (get_or fs k []) (get_or columns k []) → t ≡ same_bytes (get_or fs i []) (get_or columns i [])
-  at_column k e g = subst (λ (j : ℕ). t ≡ same_bytes (get_or fs j []) (get_or columns j [])) (sym e) g
-
-  pub column_first : i ≡ 0 → t ≡ same_bytes (get_or fs 0 []) (get_or columns 0 []) → t ≡ same_bytes (get_or fs i []) (get_or columns i [])
-  column_first e g = at_column 0 e g
-
-  pub column_second : i ≡ 1 → t ≡ same_bytes (get_or fs 1 []) (get_or columns 1 []) → t ≡ same_bytes (get_or fs i []) (get_or columns i [])
-  column_second e g = at_column 1 e g
-
-  pub column_third : i ≡ 2 → t ≡ same_bytes (get_or fs 2 []) (get_or columns 2 []) → t ≡ same_bytes (get_or fs i []) (get_or columns i [])
-  column_third e g = at_column 2 e g
-
-  pub column_fourth : i ≡ 3 → t ≡ same_bytes (get_or fs 3 []) (get_or columns 3 []) → t ≡ same_bytes (get_or fs i []) (get_or columns i [])
-  column_fourth e g = at_column 3 e g
-
-  pub column_past : (i ≡ 0 → ⊥) → (i ≡ 1 → ⊥) → (i ≡ 2 → ⊥) → (i ≡ 3 → ⊥) → t ≡ same_bytes (get_or fs i []) []
-      → t ≡ same_bytes (get_or fs i []) (get_or columns i [])
-  column_past a b c d g = g ∙ ap (same_bytes (get_or fs i [])) (sym (get_or-eq_default columns [] {n = i} (omega arith)))
-
-pub ruleset column_kit = (column_first, column_second, column_third, column_fourth, column_past)
 
 -- ---- the labels before one
 
@@ -70,9 +47,9 @@ pub ruleset before_kit = (before_found, before_more, before_end)
 
 -- ---- a wrong name
 
-pub wrong_crowded : (fs : List (List ℕ)) (i : ℕ) → 19 < i → true ≡ wrong_name fs i
+pub wrong_crowded : (fs : List (List ℕ)) (i : ℕ) → 19 < i → ltb 19 i ≡ wrong_name fs i
 unfolding wrong_name
-wrong_crowded fs i h = sym (rw (le-ltb i 4 (omega arith), le-ltb i 20 (omega arith)) (go (is_name (get_or fs i [])) (among (get_or fs i []) (labels_before fs i))))
+wrong_crowded fs i h = lt-ltb 19 i h ∙ sym (rw (le-ltb i 4 (omega arith), le-ltb i 20 (omega arith)) (go (is_name (get_or fs i [])) (among (get_or fs i []) (labels_before fs i))))
   where
     go : (a b : Bool) → (not a || (b || true)) ≡ true
     go true true = refl
@@ -80,17 +57,17 @@ wrong_crowded fs i h = sym (rw (le-ltb i 4 (omega arith), le-ltb i 20 (omega ari
     go false b = refl
 
 module _ (fs : List (List ℕ)) (i : ℕ) (t : Bool) where
-  pub wrong_column : i < 4 → t ≡ same_bytes (get_or fs i []) (get_or columns i []) → not t ≡ wrong_name fs i
+  pub wrong_column : i < 4 → t ≡ not (same_bytes (get_or fs i []) (get_or columns i [])) → t ≡ wrong_name fs i
   unfolding wrong_name
-  wrong_column h g = ap not g ∙ sym (rw (lt-ltb i 4 h) refl)
+  wrong_column h g = g ∙ sym (rw (lt-ltb i 4 h) refl)
 
   module _ (h : 4 ≤ i) (k : i ≤ 19) (g : t ≡ is_name (get_or fs i [])) where
     past : wrong_name fs i ≡ (not t || (among (get_or fs i []) (labels_before fs i) || false))
     unfolding wrong_name
     past = rw (le-ltb i 4 h, lt-ltb i 20 (omega arith), sym g) refl
 
-    pub wrong_unnamed : not t ≡ true → true ≡ wrong_name fs i
-    wrong_unnamed e = sym (past ∙ rw e refl)
+    pub wrong_unnamed : not t ≡ true → not t ≡ wrong_name fs i
+    wrong_unnamed e = e ∙ sym (past ∙ rw e refl)
 
     pub wrong_repeated : not t ≡ false → (u : Bool) → u ≡ among (get_or fs i []) (labels_before fs i) → u ≡ wrong_name fs i
     wrong_repeated e u f = sym (past ∙ rw (e, sym f) (or-false u))

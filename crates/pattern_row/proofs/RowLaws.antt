@@ -12,36 +12,69 @@ use lib.ListN.{length, get_or, take, drop, set, length-drop}
 use lib.Seq.{take_all, drop-nil, get_or-drop}
 use Rattle.numbers.proofs.ListedLaws.{are_numbers_none, are_numbers_first}
 use Rattle.numbers.specs.Numbers.{number_of, is_number, value_of}
-use Rattle.fields.specs.Fields.{same_bytes}
-use Rattle.numbers.proofs.ValueLaws.{not_number, is_number_lem, value_none, value_some}
-use Rattle.numbers.specs.declared.Number.{Number}
-use Rattle.numbers.specs.declared.Number.TheVariants.{Value, Malformed}
+use Rattle.std.specs.Prelude.{Option, Some, None, is_some, unwrap_or, Result, Err}
 use Rattle.layout.specs.Layout.{most_labels}
 use Rattle.pattern_line.specs.Line.{fields_of, field_at}
-use Rattle.pattern_row.specs.Fields.{rule_of, row_of}
-use Rattle.pattern_line.specs.Answers.{refusal}
-use Rattle.pattern_order.specs.Answers.{line_said, order_judged, row_for, rows_at}
-use Rattle.pattern_row.specs.Answers.{row_judged, next_sets}
-use Rattle.pattern_order.specs.declared.Last.{Last}
-use Rattle.pattern_order.specs.declared.LineAnswer.{LineAnswer}
-use Rattle.pattern_order.proofs.OrderLaws.{order_values}
+use Rattle.pattern_line.specs.Answers.{Said, refusal}
+use Rattle.pattern_line.specs.declared.refusals.Refusal.{Refusal}
+use Rattle.pattern_line.specs.declared.refusals.Refusal.TheVariants.{Malformed}
+use Rattle.pattern_order.specs.Row.{Row}
+use Rattle.pattern_order.specs.Answers.{line_said, order_judged, row_for, order_said}
+use Rattle.pattern_order.proofs.OrderLaws.{judged_said, said_values}
+use Rattle.pattern_order.specs.declared.LineValues.{LineValues}
+use Rattle.pattern_row.specs.Fields.{rule_of, row_of, malformed}
+use Rattle.pattern_row.specs.Answers.{values_of, values_read, row_judged, row_said, next_sets}
 use Rattle.numbers.specs.Listed.{are_numbers}
 use Rattle.lists.proofs.Tables.{part, part_none, part_more, part_all}
 
--- ---- the rule
+-- ---- a field, as reading it answers
 
-module _ (line : List ℕ) (t : Bool) (g : t ≡ same_bytes (field_at line 1) (83 ∷ 79 ∷ 77 ∷ 69 ∷ [])) where
-  pub rule_some : t ≡ true → 1 ≡ rule_of (field_at line 1)
-  rule_some e = sym (rw (sym g ∙ e) refl)
+module _ (f : List ℕ) (x : Option ℕ) (given : x ≡ number_of f) where
+  not_number : x ≡ None → false ≡ is_number f
+  not_number e = ap is_some (sym e ∙ given)
 
-  module _ (e : t ≡ false) (u : Bool) (h : u ≡ same_bytes (field_at line 1) (65 ∷ 76 ∷ 76 ∷ [])) where
-    pub rule_all : u ≡ true → 2 ≡ rule_of (field_at line 1)
-    rule_all f = sym (rw (sym g ∙ e, sym h ∙ f) refl)
+  value_none : x ≡ None → 0 ≡ value_of f
+  value_none e = ap (λ (o : Option ℕ). unwrap_or o 0) (sym e ∙ given)
 
-    pub rule_none : u ≡ false → 0 ≡ rule_of (field_at line 1)
-    rule_none f = sym (rw (sym g ∙ e, sym h ∙ f) refl)
+  is_number_lem : (v : ℕ) → x ≡ Some v → true ≡ is_number f
+  is_number_lem v e = ap is_some (sym e ∙ given)
 
-pub ruleset rule_kit = (rule_some, rule_all, rule_none)
+  value_some : (v : ℕ) → x ≡ Some v → v ≡ value_of f
+  value_some v e = ap (λ (o : Option ℕ). unwrap_or o 0) (sym e ∙ given)
+
+-- ---- the first four fields
+
+module _ (line : List ℕ) (x : Option ℕ) (p : x ≡ number_of (field_at line 0)) where
+  pub bead_missing : x ≡ None → None ≡ values_read (fields_of line)
+  bead_missing m = sym (rw (sym (not_number (field_at line 0) x p m)) refl)
+
+  module _ (bead : ℕ) (is_bead : x ≡ Some bead) (y : Option ℕ) (q : y ≡ number_of (field_at line 2)) where
+    pub state_missing : y ≡ None → None ≡ values_read (fields_of line)
+    state_missing m = sym (rw (sym (is_number_lem (field_at line 0) x p bead is_bead), sym (not_number (field_at line 2) y q m)) refl)
+
+    module _ (state : ℕ) (is_state : y ≡ Some state) (z : Option ℕ) (r : z ≡ number_of (field_at line 3)) where
+      pub final_missing : z ≡ None → None ≡ values_read (fields_of line)
+      final_missing m =
+          sym (rw (
+            sym (is_number_lem (field_at line 0) x p bead is_bead),
+            sym (is_number_lem (field_at line 2) y q state is_state),
+            sym (not_number (field_at line 3) z r m),
+          ) refl)
+
+      pub values_there : (accepting : ℕ) → z ≡ Some accepting → (rule : ℕ) → rule ≡ rule_of (field_at line 1)
+          → Some (record { bead = bead; rule = rule; state = state; accepting = accepting }) ≡ values_read (fields_of line)
+      values_there accepting is_final rule u =
+          sym (rw (
+            sym (is_number_lem (field_at line 0) x p bead is_bead),
+            sym (is_number_lem (field_at line 2) y q state is_state),
+            sym (is_number_lem (field_at line 3) z r accepting is_final),
+            sym (value_some (field_at line 0) x p bead is_bead),
+            sym (value_some (field_at line 2) y q state is_state),
+            sym (value_some (field_at line 3) z r accepting is_final),
+            sym u,
+          ) refl)
+
+pub ruleset values_kit = (bead_missing, state_missing, final_missing, values_there)
 
 -- ---- the next sets
 
@@ -76,16 +109,16 @@ all_passed (f ∷ fs) (suc n) (suc i) h = all_passed fs n i (omega arith)
 pub sets_none : (line l : List ℕ) → l ≡ part (set_at line) 0 l
 sets_none line l = part_none (set_at line) l
 
-module _ (line : List ℕ) (a : ℕ) (h : a < 16) (x : Number) (given : x ≡ number_of (field_at line (4 + a))) where
+module _ (line : List ℕ) (a : ℕ) (h : a < 16) (x : Option ℕ) (given : x ≡ number_of (field_at line (4 + a))) where
   module _ (l next : List ℕ) (inv : next ≡ part (set_at line) a l) (size : length l ≡ 16) where
     put : (v : ℕ) → v ≡ set_at line a → set next a v ≡ part (set_at line) (a + 1) l
     put v g = ap₂ (λ (y : List ℕ) (z : ℕ). set y a z) inv g ∙ part_more (set_at line) a l (omega arith)
 
-    pub set_number : (v : ℕ) → x ≡ Value v → set next a v ≡ part (set_at line) (a + 1) l
-    set_number v e = put v (value_some (field_at line (4 + a)) x given v e)
+    pub set_number : (v : ℕ) → x ≡ Some v → (after : List ℕ) → after ≡ set next a v → after ≡ part (set_at line) (a + 1) l
+    set_number v e after q = q ∙ put v (value_some (field_at line (4 + a)) x given v e)
 
-    pub set_lacked : x ≡ Malformed → set next a 0 ≡ part (set_at line) (a + 1) l
-    set_lacked e = put 0 (value_none (field_at line (4 + a)) x given e)
+    pub set_lacked : x ≡ None → (after : List ℕ) → after ≡ set next a 0 → after ≡ part (set_at line) (a + 1) l
+    set_lacked e after q = q ∙ put 0 (value_none (field_at line (4 + a)) x given e)
 
   module _ (whole numbers : Bool) (inv : whole ≡ (numbers && are_numbers (drop a (set_fields line)))) where
     behind : a < length (drop 4 (fields_of line)) → (t : Bool) → t ≡ is_number (field_at line (4 + a))
@@ -99,8 +132,11 @@ module _ (line : List ℕ) (a : ℕ) (h : a < 16) (x : Number) (given : x ≡ nu
         inv
         ∙ ap (λ (b : Bool). numbers && b) (no_more (drop 4 (fields_of line)) 16 a k ∙ sym (no_more (drop 4 (fields_of line)) 16 (a + 1) (omega arith)))
 
-    pub numbers_more : (v : ℕ) → x ≡ Value v → whole ≡ (numbers && are_numbers (drop (a + 1) (set_fields line)))
-    numbers_more v e = go (ltb a (length (drop 4 (fields_of line)))) refl
+    kept : (m : Bool) → m ≡ numbers → whole ≡ (numbers && are_numbers (drop (a + 1) (set_fields line))) → whole ≡ (m && are_numbers (drop (a + 1) (set_fields line)))
+    kept m q g = g ∙ ap (λ (b : Bool). b && are_numbers (drop (a + 1) (set_fields line))) (sym q)
+
+    pub numbers_more : (v : ℕ) → x ≡ Some v → (m : Bool) → m ≡ numbers → whole ≡ (m && are_numbers (drop (a + 1) (set_fields line)))
+    numbers_more v e m q = kept m q (go (ltb a (length (drop 4 (fields_of line)))) refl)
       where
         go : (t : Bool) → ltb a (length (drop 4 (fields_of line))) ≡ t → whole ≡ (numbers && are_numbers (drop (a + 1) (set_fields line)))
         go true k =
@@ -110,13 +146,14 @@ module _ (line : List ℕ) (a : ℕ) (h : a < 16) (x : Number) (given : x ≡ nu
         go false k = lacked (ltb-false a (length (drop 4 (fields_of line))) k)
 
     module _ (n : ℕ) (count : n ≡ length (fields_of line)) where
-      pub numbers_lacked : n ≤ 4 + a → whole ≡ (numbers && are_numbers (drop (a + 1) (set_fields line)))
-      numbers_lacked k = let e = length-drop 4 (fields_of line) in lacked (omega arith)
+      pub numbers_lacked : n ≤ 4 + a → (m : Bool) → m ≡ numbers → whole ≡ (m && are_numbers (drop (a + 1) (set_fields line)))
+      numbers_lacked k m q = kept m q (let e = length-drop 4 (fields_of line) in lacked (omega arith))
 
-      pub numbers_wrong : 4 + a < n → x ≡ Malformed → whole ≡ (false && are_numbers (drop (a + 1) (set_fields line)))
-      numbers_wrong k e =
+      pub numbers_wrong : 4 + a < n → x ≡ None → (m : Bool) → m ≡ false → whole ≡ (m && are_numbers (drop (a + 1) (set_fields line)))
+      numbers_wrong k e m q =
           let l = length-drop 4 (fields_of line) in
           inv ∙ ap (λ (b : Bool). numbers && b) (behind (omega arith) false (not_number (field_at line (4 + a)) x given e)) ∙ and-false numbers
+          ∙ ap (λ (b : Bool). b && are_numbers (drop (a + 1) (set_fields line))) (sym q)
 
 module _ (line : List ℕ) (a : ℕ) (h : a ≤ 16) (k : 16 ≤ a) where
   pub sets_end : (l next : List ℕ) → next ≡ part (set_at line) a l → length l ≡ 16 → next ≡ next_sets (fields_of line)
@@ -133,63 +170,93 @@ pub ruleset sets_kit = (sets_none, set_number, set_lacked, numbers_more, numbers
 
 -- ---- the whole line
 
-module _ (line : List ℕ) (labels : ℕ) (last : Last) (n : ℕ) (count : n ≡ length (fields_of line)) where
-  pub fields_wrong : (n ≡ 4 + labels → ⊥) → refusal 11 ≡ row_judged labels (rows_at last) (fields_of line)
+-- The answer in numbers is the one that the definition in numbers gives.
+pub row_judged_said : (labels : ℕ) (before : List Row) (fs : List (List ℕ)) → line_said (row_judged labels before fs) ≡ row_said labels before fs
+unfolding row_judged row_said
+row_judged_said labels before fs =
+    go (malformed labels fs) (order_judged before (values_of fs)) (order_said before (row_of fs))
+    (judged_said before (values_of fs) ∙ said_values before (values_of fs) (row_of fs) refl refl refl refl)
+  where
+    go : (t : Bool) (x : Result LineValues Refusal) (y : Said) → line_said x ≡ y → line_said (cond t (Err Malformed) x) ≡ cond t (refusal 11) y
+    go true x y e = refl
+    go false x y e = e
+
+module _ (line other : List ℕ) (same : other ≡ line) (labels : ℕ) (before : List Row) (n : ℕ) (count : n ≡ length (fields_of other)) where
+  pub fields_wrong : (n ≡ 4 + labels → ⊥) → Err Malformed ≡ row_judged labels before (fields_of line)
   unfolding row_judged
-  fields_wrong h = sym (rw (ne_eqb (length (fields_of line)) (4 + labels) (λ e. h (count ∙ e))) refl)
+  fields_wrong h = rw (sym same) (sym (rw (ne_eqb (length (fields_of other)) (4 + labels) (λ e. h (count ∙ e))) refl))
 
-  module _ (few : labels ≤ most_labels) (right : n ≡ 4 + labels) (t : Bool) (told : t ≡ are_numbers (set_fields line)) where
-    g : t ≡ are_numbers (drop 4 (fields_of line))
-    g = let l = length-drop 4 (fields_of line) in told ∙ ap are_numbers (take_all 16 (drop 4 (fields_of line)) (omega arith))
+  pub fields_wrong_said : (n ≡ 4 + labels → ⊥) → refusal 11 ≡ row_said labels before (fields_of line)
+  fields_wrong_said h = ap line_said (fields_wrong h) ∙ row_judged_said labels before (fields_of line)
 
-    counted : eqb (length (fields_of line)) (4 + labels) ≡ true
-    counted = eq-eqb (length (fields_of line)) (4 + labels) (sym count ∙ right)
+  module _ (few : labels ≤ most_labels) (right : n ≡ 4 + labels) (t : Bool) (told : t ≡ are_numbers (set_fields other)) where
+    g : t ≡ are_numbers (drop 4 (fields_of other))
+    g = let l = length-drop 4 (fields_of other) in told ∙ ap are_numbers (take_all 16 (drop 4 (fields_of other)) (omega arith))
 
-    pub set_malformed : not t ≡ true → refusal 11 ≡ row_judged labels (rows_at last) (fields_of line)
+    counted : eqb (length (fields_of other)) (4 + labels) ≡ true
+    counted = eq-eqb (length (fields_of other)) (4 + labels) (sym count ∙ right)
+
+    -- whatever the other fields are
+    formed : (a b c d : Bool) → d ≡ t → (more : Result LineValues Refusal)
+        → cond (not (a && (b && (c && d)))) (Err Malformed) more ≡ cond (a && (b && c)) (cond d more (Err Malformed)) (Err Malformed)
+    formed true true true true e more = refl
+    formed true true true false e more = refl
+    formed true true false d e more = refl
+    formed true false c d e more = refl
+    formed false b c d e more = refl
+
+    judged : row_judged labels before (fields_of other)
+        ≡ cond (is_number (field_at other 0) && (is_number (field_at other 2) && is_number (field_at other 3)))
+        (cond t (order_judged before (values_of (fields_of other))) (Err Malformed)) (Err Malformed)
     unfolding row_judged
-    set_malformed e = sym (rw (counted, sym g ∙ not-true t e) (go (is_number (field_at line 0)) (is_number (field_at line 2)) (is_number (field_at line 3))))
+    judged = rw (counted, g) (formed (is_number (field_at other 0)) (is_number (field_at other 2)) (is_number (field_at other 3)) (are_numbers (drop 4 (fields_of other))) (sym g) (order_judged before (values_of (fields_of other))))
+
+    pub set_malformed : not t ≡ true → Err Malformed ≡ row_judged labels before (fields_of line)
+    set_malformed e = rw (sym same) (sym (judged ∙ rw (not-true t e) (go (is_number (field_at other 0) && (is_number (field_at other 2) && is_number (field_at other 3))))))
       where
-        go : (a b c : Bool) → cond (not (a && (b && (c && false)))) (refusal 11) (order_judged (rows_at last) (row_of (fields_of line))) ≡ refusal 11
-        go true true true = refl
-        go true true false = refl
-        go true false c = refl
-        go false b c = refl
+        go : (a : Bool) → cond {A = Result LineValues Refusal} a (Err Malformed) (Err Malformed) ≡ Err Malformed
+        go true = refl
+        go false = refl
 
-    module _ (e : not t ≡ false) (x : Number) (p : x ≡ number_of (field_at line 0)) where
-      pub bead_malformed : x ≡ Malformed → refusal 11 ≡ row_judged labels (rows_at last) (fields_of line)
-      unfolding row_judged
-      bead_malformed m = sym (rw (counted, sym (not_number (field_at line 0) x p m)) refl)
+    pub set_malformed_said : not t ≡ true → refusal 11 ≡ row_said labels before (fields_of line)
+    set_malformed_said e = ap line_said (set_malformed e) ∙ row_judged_said labels before (fields_of line)
 
-      module _ (bead : ℕ) (is_bead : x ≡ Value bead) (y : Number) (q : y ≡ number_of (field_at line 2)) where
-        pub state_malformed : y ≡ Malformed → refusal 11 ≡ row_judged labels (rows_at last) (fields_of line)
-        unfolding row_judged
-        state_malformed m = sym (rw (counted, sym (is_number_lem (field_at line 0) x p bead is_bead), sym (not_number (field_at line 2) y q m)) refl)
+    module _ (e : not t ≡ false) (x : Option LineValues) (p : x ≡ values_read (fields_of other)) where
+      pub number_missing : x ≡ None → Err Malformed ≡ row_judged labels before (fields_of line)
+      number_missing m = rw (sym same) (sym (judged ∙ go (is_number (field_at other 0) && (is_number (field_at other 2) && is_number (field_at other 3))) (sym m ∙ p)))
+        where
+          go : (a : Bool) → ◌≡◌ {A = Option LineValues} None (cond a (Some (values_of (fields_of other))) None)
+              → cond {A = Result LineValues Refusal} a (cond t (order_judged before (values_of (fields_of other))) (Err Malformed)) (Err Malformed) ≡ Err Malformed
+          go true z = let y : ◌≡◌ {A = ℕ} 0 1 = cc in absurd (omega arith)
+          go false z = refl
 
-        module _ (state : ℕ) (is_state : y ≡ Value state) (z : Number) (r : z ≡ number_of (field_at line 3)) where
-          pub final_malformed : z ≡ Malformed → refusal 11 ≡ row_judged labels (rows_at last) (fields_of line)
-          unfolding row_judged
-          final_malformed m =
-              sym (rw (
-                counted,
-                sym (is_number_lem (field_at line 0) x p bead is_bead),
-                sym (is_number_lem (field_at line 2) y q state is_state),
-                sym (not_number (field_at line 3) z r m),
-              ) refl)
+      pub number_missing_said : x ≡ None → refusal 11 ≡ row_said labels before (fields_of line)
+      number_missing_said m = ap line_said (number_missing m) ∙ row_judged_said labels before (fields_of line)
 
-          pub row_right : (accepting : ℕ) → z ≡ Value accepting → (rule : ℕ) → rule ≡ rule_of (field_at line 1) → (answer : LineAnswer)
-              → line_said answer ≡ order_judged (rows_at last) (row_for (record { bead = bead; rule = rule; state = state; accepting = accepting }))
-              → line_said answer ≡ row_judged labels (rows_at last) (fields_of line)
-          unfolding row_judged
-          row_right accepting is_final rule u answer w =
-              w ∙ order_values (rows_at last) (row_for (record { bead = bead; rule = rule; state = state; accepting = accepting })) (row_of (fields_of line))
-              (value_some (field_at line 0) x p bead is_bead) u (value_some (field_at line 2) y q state is_state)
-              (value_some (field_at line 3) z r accepting is_final)
-              ∙ sym (rw (
-                counted,
-                sym (is_number_lem (field_at line 0) x p bead is_bead),
-                sym (is_number_lem (field_at line 2) y q state is_state),
-                sym (is_number_lem (field_at line 3) z r accepting is_final),
-                sym g ∙ not-false t e,
-              ) refl)
+      pub row_right : (v : LineValues) → x ≡ Some v → (answer : Result LineValues Refusal) → answer ≡ order_judged before v → answer ≡ row_judged labels before (fields_of line)
+      row_right v m answer w =
+          rw (sym same) (w ∙ sym (judged ∙ rw (not-false t e) (go (is_number (field_at other 0) && (is_number (field_at other 2) && is_number (field_at other 3))) (sym m ∙ p))))
+        where
+          go : (a : Bool) → Some v ≡ cond a (Some (values_of (fields_of other))) None
+              → cond a (order_judged before (values_of (fields_of other))) (Err Malformed) ≡ order_judged before v
+          go true z = let y : v ≡ values_of (fields_of other) = cc in ap (order_judged before) (sym y)
+          go false z = let y : ◌≡◌ {A = ℕ} 0 1 = cc in absurd (omega arith)
 
-pub ruleset row_kit = (fields_wrong, set_malformed, bead_malformed, state_malformed, final_malformed, row_right)
+      pub row_right_said : (v : LineValues) → x ≡ Some v → (said : Said) → said ≡ order_said before (row_for v) → said ≡ row_said labels before (fields_of line)
+      row_right_said v m said w =
+          w ∙ sym (judged_said before v) ∙ ap line_said (row_right v m (order_judged before v) refl) ∙ row_judged_said labels before (fields_of line)
+
+pub next_kept : (line other : List ℕ) → other ≡ line → (next : List ℕ) → next ≡ next_sets (fields_of other) → next ≡ next_sets (fields_of line)
+next_kept line other same next e = e ∙ ap (λ (l : List ℕ). next_sets (fields_of l)) same
+
+pub ruleset row_kit = (
+  fields_wrong,
+  set_malformed,
+  number_missing,
+  row_right,
+  next_kept,
+  fields_wrong_said,
+  set_malformed_said,
+  number_missing_said,
+  row_right_said,
+)

@@ -9,7 +9,6 @@ use lib.ListN.{get_or, take}
 use Rattle.sets.specs.Sets.{set_of, members_from}
 use Rattle.text.specs.Split.{split}
 use Rattle.text.specs.Lines.{as_lines, printable}
-use Rattle.fields.specs.Fields.{same_bytes}
 use Rattle.numbers.specs.Numbers.{digits, value_from, decimal}
 use Rattle.text.specs.Walk.{Outcome, accepted, faulty, walk}
 use Rattle.layout.specs.Layout.{next_at}
@@ -42,7 +41,7 @@ listed = record {
 }
 
 pub listing_accepted : pattern_text listing ≡ accepted listed
-unfolding listing listed walk as_lines split printable same_bytes digits value_from decimal same_fields name_bytes are_names among distinct are_numbers follows_last breaks_turns states_of all_within all_single members_from
+unfolding listing listed walk as_lines split printable digits value_from decimal same_fields name_bytes are_names among distinct are_numbers follows_last breaks_turns states_of all_within all_single members_from
 listing_accepted = refl
 
 -- label count, bead count; rules; state counts; final sets
@@ -152,5 +151,5 @@ cases =
     ∷ []
 
 pub refusals : all_refused cases ≡ true
-unfolding all_refused cases walk as_lines split printable same_bytes digits value_from decimal same_fields name_bytes are_names among distinct are_numbers follows_last breaks_turns states_of all_within all_single members_from
+unfolding all_refused cases walk as_lines split printable digits value_from decimal same_fields name_bytes are_names among distinct are_numbers follows_last breaks_turns states_of all_within all_single members_from
 refusals = refl

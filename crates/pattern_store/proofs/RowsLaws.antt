@@ -11,8 +11,6 @@ use lib.ListN.{length, get_or}
 use Rattle.pattern_order.specs.Row.{Row, follows_last, disordered, breaks_turns, misruled}
 use Rattle.pattern_store.specs.Next.{states_of}
 use Rattle.pattern_store.specs.Buffer.{bead_count, rule_of_bead, is_at, accepting_of, next_of}
-use Rattle.pattern_order.specs.Answers.{rows_at}
-use Rattle.pattern_order.specs.declared.Last.{Last}
 
 -- ---- one row more
 
@@ -103,6 +101,15 @@ rule_absent (p ∷ rows) b h = go (eqb p.bead b) h (rule_absent rows b)
 
 -- ---- the last row
 
+-- What 13 and 14 look at of it: bead 0 where there is none.
+pub record Last : Type 0 where
+  pub bead : ℕ
+  pub rule : ℕ
+  pub state : ℕ
+
+abbrev pub last_rows : Last → List Row
+last_rows l = cond (eqb l.bead 0) [] (record { bead = l.bead; rule = l.rule; state = l.state; accepting = 0; next = [] } ∷ [])
+
 unfoldable pub last_of : List Row → Last
 last_of [] = record { bead = 0; rule = 0; state = 0 }
 last_of (p ∷ []) = record { bead = p.bead; rule = p.rule; state = p.state }
@@ -115,13 +122,13 @@ last_more (p ∷ []) r = refl
 last_more (p ∷ (q ∷ rows)) r = last_more (q ∷ rows) r
 
 -- 13 and 14 look at no other.
-pub follows_last_lem : (rows : List Row) (r : Row) → ((last_of rows).bead ≡ 0 → length rows ≡ 0) → follows_last rows r ≡ follows_last (rows_at (last_of rows)) r
+pub follows_last_lem : (rows : List Row) (r : Row) → ((last_of rows).bead ≡ 0 → length rows ≡ 0) → follows_last rows r ≡ follows_last (last_rows (last_of rows)) r
 unfolding follows_last last_of
 follows_last_lem [] r h = refl
 follows_last_lem (p ∷ []) r h = rw (ne_eqb p.bead 0 (λ z. let e = h z in omega arith)) refl
 follows_last_lem (p ∷ (q ∷ rows)) r h = follows_last_lem (q ∷ rows) r (λ z. let e = h z in absurd (omega arith))
 
-pub turns_last : (rows : List Row) (r : Row) → ((last_of rows).bead ≡ 0 → length rows ≡ 0) → breaks_turns rows r ≡ breaks_turns (rows_at (last_of rows)) r
+pub turns_last : (rows : List Row) (r : Row) → ((last_of rows).bead ≡ 0 → length rows ≡ 0) → breaks_turns rows r ≡ breaks_turns (last_rows (last_of rows)) r
 unfolding breaks_turns last_of
 turns_last [] r h = refl
 turns_last (p ∷ []) r h = rw (ne_eqb p.bead 0 (λ z. let e = h z in omega arith)) refl
@@ -189,7 +196,7 @@ data Way (l : Last) (r : Row) : Type 0 where
   inside : (l.bead ≡ 0 → ⊥) → r.bead ≡ l.bead → r.state ≡ l.state + 1 → Way l r
   next : (l.bead ≡ 0 → ⊥) → r.bead ≡ l.bead + 1 → r.state ≡ 0 → Way l r
 
-way_of : (l : Last) (r : Row) → follows_last (rows_at l) r ≡ true → Way l r
+way_of : (l : Last) (r : Row) → follows_last (last_rows l) r ≡ true → Way l r
 unfolding follows_last
 way_of l r h = go (eqb l.bead 0) refl h
   where
@@ -215,7 +222,7 @@ way_of l r h = go (eqb l.bead 0) refl h
         other (eqb r.bead l.bead) refl (eqb r.state (l.state + 1)) refl (eqb r.bead (l.bead + 1)) refl (eqb r.state 0) refl
         (eqb-false l.bead 0 z) e
 
-pub follows_low : (l : Last) (r : Row) → follows_last (rows_at l) r ≡ true → 1 ≤ r.bead
+pub follows_low : (l : Last) (r : Row) → follows_last (last_rows l) r ≡ true → 1 ≤ r.bead
 follows_low l r h = go (way_of l r h)
   where
     go : Way l r → 1 ≤ r.bead
@@ -228,16 +235,16 @@ record Ruled (l : Last) (r : Row) : Type 0 where
   rule : r.rule ≡ 0 → ⊥
   same : (l.bead ≡ 0 → ⊥) → r.bead ≡ l.bead → r.rule ≡ l.rule
 
-ruled_of : (l : Last) (r : Row) → (eqb r.rule 0 || breaks_turns (rows_at l) r) ≡ false → Ruled l r
+ruled_of : (l : Last) (r : Row) → (eqb r.rule 0 || breaks_turns (last_rows l) r) ≡ false → Ruled l r
 unfolding breaks_turns
 ruled_of l r h = go (eqb r.rule 0) refl h
   where
-    unbroken : (l.bead ≡ 0 → ⊥) → r.bead ≡ l.bead → breaks_turns (rows_at l) r ≡ false → r.rule ≡ l.rule
+    unbroken : (l.bead ≡ 0 → ⊥) → r.bead ≡ l.bead → breaks_turns (last_rows l) r ≡ false → r.rule ≡ l.rule
     unbroken n e k =
-        let p : breaks_turns (rows_at l) r ≡ not (eqb r.rule l.rule) = rw (ne_eqb l.bead 0 n, eq-eqb r.bead l.bead e) refl in
+        let p : breaks_turns (last_rows l) r ≡ not (eqb r.rule l.rule) = rw (ne_eqb l.bead 0 n, eq-eqb r.bead l.bead e) refl in
         eqb-true r.rule l.rule (not-false (eqb r.rule l.rule) (sym p ∙ k))
 
-    go : (t : Bool) → eqb r.rule 0 ≡ t → (t || breaks_turns (rows_at l) r) ≡ false → Ruled l r
+    go : (t : Bool) → eqb r.rule 0 ≡ t → (t || breaks_turns (last_rows l) r) ≡ false → Ruled l r
     go true a e = let y : ◌≡◌ {A = ℕ} 0 1 = cc in absurd (omega arith)
     go false a e = record { rule = eqb-false r.rule 0 a; same = λ n q. unbroken n q e }
 

@@ -1,12 +1,12 @@
 -- What the stores of a row come to.
 -- Assumes nothing.
 use mathlib.Core.Path.{◌≡◌, refl, sym, ap, ap₂, ◌∙◌}
-use mathlib.Core.List.{List, [], ◌++◌, append-nil}
+use mathlib.Core.List.{List, ◌++◌}
 use Prim.Native.Nat.{ℕ, ◌+◌, ◌-◌, ◌*◌, ◌≤◌, ◌<◌}
 use native.Mathlib.Omega.{arith}
 use borrow.Author.Tests.{eq-eqb, ne_eqb}
 use borrow.Rule.Slice.PartMut.{put_mid}
-use lib.ListN.{length, get_or, take, drop, set, length-take, drop_of_length-le}
+use lib.ListN.{length, get_or, take, drop, set}
 use lib.Seq.{drop-drop}
 use Rattle.sets.specs.Sets.{singleton, union}
 use Rattle.layout.specs.Layout.{pattern_length}
@@ -45,17 +45,14 @@ module _ (b l next part : List ℕ) (v : LineValues) (g : l ≡ stored_values b 
   pub sets_inside : Storable v → length l ≡ pattern_length → from v + 16 ≤ length l
   sets_inside f n = let h = f.bead_high in let k = f.state_high in omega arith
 
-  pub row_stored_lem : Storable v → length next ≡ 16 → part ≡ next ++ drop (length next) (take (from v + 16 - from v) (drop (from v) l))
+  pub row_stored_lem : Storable v → length next ≡ 16 → part ≡ next
       → put_mid (from v) (from v + 16 - from v) l part ≡ stored b v next
   unfolding stored
   row_stored_lem f sets p =
       let n : from v + 16 - from v ≡ 16 = omega arith in
       let m : from v ≡ from v + 0 = omega arith in
       let k : from v + 16 ≡ from v + 0 + 16 = omega arith in
-      let cut : drop (length next) (take (from v + 16 - from v) (drop (from v) l)) ≡ []
-      = drop_of_length-le (take (from v + 16 - from v) (drop (from v) l)) {i = length next} (let t = length-take (from v + 16 - from v) (drop (from v) l) in omega arith) in
-      let whole : part ≡ next = p ∙ ap (λ (y : List ℕ). next ++ y) cut ∙ append-nil next in
-      ap₂ (λ (y z : List ℕ). take (from v) l ++ (y ++ z)) whole (drop-drop (from v + 16 - from v) (from v) l ∙ ap (λ (i : ℕ). drop (from v + i) l) n)
+      ap₂ (λ (y z : List ℕ). take (from v) l ++ (y ++ z)) p (drop-drop (from v + 16 - from v) (from v) l ∙ ap (λ (i : ℕ). drop (from v + i) l) n)
       ∙ ap₂ (λ (i j : ℕ). take i l ++ (next ++ drop j l)) m k
       ∙ ap (λ (y : List ℕ). take (from v + 0) y ++ (next ++ drop (from v + 0 + 16) y)) g
 

@@ -1,5 +1,5 @@
 -- The pattern format as document 01's list has it: from a list of bytes to the refusal's number and line, or the rows.
-use Rattle.std.specs.Prelude.{ℕ, ◌+◌, cond, List, [], ◌∷◌, ◌++◌, eqb, length}
+use Rattle.std.specs.Prelude.{ℕ, cond, List, [], ◌∷◌, ◌++◌, eqb, length}
 use Rattle.text.specs.Split.{split}
 use Rattle.text.specs.Lines.{TextLine, whole}
 use Rattle.text.specs.Walk.{Judged, refused, passed, Outcome, accepted, faulty, walk, Format, read_text}

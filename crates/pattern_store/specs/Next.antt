@@ -1,5 +1,6 @@
 -- The refusals of the next sets, which look at all rows.
-use Rattle.std.specs.Prelude.{ℕ, ◌+◌, Bool, true, not, cond, ◌&&◌, List, [], ◌∷◌, eqb}
+use Rattle.std.specs.Prelude.{ℕ, ◌+◌, Bool, not, cond, ◌&&◌, List, [], ◌∷◌, eqb}
+use Rattle.std.specs.List.{list_all}
 use Rattle.sets.specs.Sets.{within, single}
 use Rattle.pattern_order.specs.Row.{Row}
 
@@ -9,12 +10,10 @@ states_of [] b = 0
 states_of (r ∷ rs) b = cond (eqb r.bead b) 1 0 + states_of rs b
 
 unfoldable pub all_within : ℕ → List ℕ → Bool
-all_within n [] = true
-all_within n (s ∷ ss) = within n s && all_within n ss
+all_within n ss = list_all (within n) ss
 
 unfoldable pub all_single : List ℕ → Bool
-all_single [] = true
-all_single (s ∷ ss) = single 16 s && all_single ss
+all_single ss = list_all (single 16) ss
 
 -- 15: a next set with a state that the bead lacks.
 abbrev pub strays : List Row → Row → Bool

@@ -1,11 +1,10 @@
 -- What storing a row does to a pattern buffer.
-use Rattle.std.specs.Prelude.{ℕ, ◌+◌, ◌-◌, ◌≤◌, ◌<◌, cond, List, ◌++◌, eqb, get_or, take, drop, set}
+use Rattle.std.specs.Prelude.{ℕ, ◌+◌, ◌-◌, ◌≤◌, ◌<◌, cond, List, ◌++◌, eqb, get_or, take, drop, set, Result, Ok, Err}
 use Rattle.sets.specs.Sets.{singleton, union}
 use Rattle.layout.specs.Layout.{rule_at, states_at, accepting_at, next_at}
+use Rattle.pattern_line.specs.declared.refusals.Refusal.{Refusal}
 use Rattle.pattern_row.specs.Answers.{next_sets}
 use Rattle.pattern_order.specs.declared.LineValues.{LineValues}
-use Rattle.pattern_order.specs.declared.LineAnswer.{LineAnswer}
-use Rattle.pattern_order.specs.declared.LineAnswer.TheVariants.{Values, Refused}
 
 -- The limits of 13, which a row that passed it keeps.
 pub record Storable (v : LineValues) : Type 0 where
@@ -33,6 +32,6 @@ stored b v next =
     take (next_at (bead_at v) v.state 0) (stored_values b v) ++ (next ++ drop (next_at (bead_at v) v.state 0 + 16) (stored_values b v))
 
 -- What a line's answer leaves: the row stored with its next sets, or all as it was.
-abbrev pub row_stored : List ℕ → LineAnswer → List (List ℕ) → List ℕ
-row_stored b (Values v) fs = stored b v (next_sets fs)
-row_stored b (Refused r) fs = b
+abbrev pub row_stored : List ℕ → Result LineValues Refusal → List (List ℕ) → List ℕ
+row_stored b (Ok v) fs = stored b v (next_sets fs)
+row_stored b (Err r) fs = b

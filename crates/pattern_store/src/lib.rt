@@ -8,6 +8,7 @@ ghost use Rattle.pattern_store.specs.Store.{Storable, accepting_with, stored_val
 use pattern_order::LineValues;
 
 // The final set with the state, where the line says that it is final.
+#[tactic(auto, using(crate::proofs::StoreLaws::accepting_kit))]
 fn accepting_with(set: u16, v: LineValues) -> u16
     requires { Storable v }
     ensures { result ≡ accepting_with set v }
@@ -19,6 +20,7 @@ fn accepting_with(set: u16, v: LineValues) -> u16
 }
 
 // Stores what a line says but for its next sets.
+#[tactic(auto, using(crate::proofs::StoreLaws::values_kit))]
 fn store_values(buffer: &mut [u16], v: LineValues)
     requires { (length buffer.old ≡ pattern_length) × Storable v }
     ensures { buffer.new ≡ stored_values buffer.old v }
@@ -32,6 +34,7 @@ fn store_values(buffer: &mut [u16], v: LineValues)
 }
 
 // Stores what a line says, with the next sets of its labels.
+#[tactic(auto, using(crate::proofs::StoreLaws::store_kit))]
 pub fn store_row(buffer: &mut [u16], v: LineValues, next: &[u16])
     requires { (length buffer.old ≡ pattern_length) × (length next.now ≡ 16) × Storable v }
     ensures { buffer.new ≡ stored buffer.old v next.now }
@@ -40,6 +43,5 @@ pub fn store_row(buffer: &mut [u16], v: LineValues, next: &[u16])
     let from = layout::NEXT_SETS
         + layout::SETS_A_BEAD * (v.bead as usize - 1)
         + layout::SETS_A_STATE * v.state as usize;
-    let to = from + 16;
-    lists::copy(next, &mut buffer[from..to]);
+    buffer[from..from + 16].copy_from_slice(next);
 }

@@ -2,99 +2,55 @@
 // The definition looks at each place by itself, and so does this code; the theorem `pattern_buffers` says what it means.
 #![tactic(auto)]
 
-ghost use Rattle.std.specs.Prelude.{◌≡◌, ◌<◌, ◌≤◌, length};
-ghost use Rattle.layout.specs.Layout.{pattern_length, most_beads};
+ghost use Rattle.std.specs.Prelude.{◌≡◌, ◌<◌};
+ghost use Rattle.layout.specs.Layout.{most_beads};
 ghost use Rattle.pattern_buffer.specs.Valid.{turn_ok, bead_ok, beads_ok, is_pattern};
 
-use pattern_buffer::nexts_ok;
+use pattern_buffer::PatternNumbers;
 
 // Is the rule of the bead at place j another than that of the bead before?
-fn turn_ok(buffer: &[u16], j: u16) -> bool
-    requires pattern_length_in_bounds { pattern_length ≤ length buffer.now }
-    requires j_lt_most_beads { j < most_beads }
-    ensures { result ≡ turn_ok buffer.now j }
+fn turn_ok(pattern: &PatternNumbers, j: usize) -> bool
+    requires { j < most_beads }
+    ensures { result ≡ turn_ok pattern.now j }
 {
-    if j == 0 {
-        return true;
-    }
-    buffer[(2 + j) as usize] != buffer[(2 + (j - 1)) as usize]
+    j == 0 || pattern.rule(j) != pattern.rule(j - 1)
 }
 
 // The bead at place j: right if it is there, all zeros if it is not.
-fn bead_ok(buffer: &[u16], j: u16) -> bool
-    requires pattern_length_in_bounds { pattern_length ≤ length buffer.now }
-    requires j_lt_most_beads { j < most_beads }
-    ensures { result ≡ bead_ok buffer.now j }
+fn bead_ok(pattern: &PatternNumbers, j: usize) -> bool
+    requires { j < most_beads }
+    ensures { result ≡ bead_ok pattern.now j }
 {
-    let beads = buffer[1];
-    let rule = buffer[(2 + j) as usize];
-    let states = buffer[(10 + j) as usize];
-    let accepting = buffer[(18 + j) as usize];
-    if j >= beads {
-        if rule != 0 {
-            return false;
-        }
-        if states != 0 {
-            return false;
-        }
-        return accepting == 0;
+    let rule = pattern.rule(j);
+    let states = pattern.states(j);
+    let accepting = pattern.accepting(j);
+    if j < pattern.beads() {
+        (1..=2).contains(&rule)
+            && turn_ok(pattern, j)
+            && (1..=16).contains(&states)
+            && sets::within(accepting, states)
+    } else {
+        rule == 0 && states == 0 && accepting == 0
     }
-    if rule < 1 {
-        return false;
-    }
-    if rule > 2 {
-        return false;
-    }
-    if !turn_ok(buffer, j) {
-        return false;
-    }
-    if states < 1 {
-        return false;
-    }
-    if states > 16 {
-        return false;
-    }
-    sets::within(accepting, states)
 }
 
 // All 8 beads.
-fn beads_ok(buffer: &[u16]) -> bool
-    requires { pattern_length ≤ length buffer.now }
-    ensures { result ≡ beads_ok buffer.now }
+fn beads_ok(pattern: &PatternNumbers) -> bool
+    ensures { result ≡ beads_ok pattern.now }
 {
-    let mut j = 0;
-    while j < 8 {
-        if !bead_ok(buffer, j) {
-            return false;
-        }
-        j += 1;
-    }
-    true
+    (0..8).all(|j| bead_ok(pattern, j))
 }
 
 // Is the buffer what some accepted pattern text gives? It asks nothing of its caller: the length comes first.
+#[tactic(auto, unfolding(pattern_buffer::specs::Valid::is_pattern))]
 pub fn is_pattern(buffer: &[u16]) -> bool
     ensures { result ≡ is_pattern buffer.now }
 {
-    if buffer.len() < layout::PATTERN_LENGTH {
+    let Some(pattern) = PatternNumbers::new(buffer) else {
         return false;
-    }
-    let labels = buffer[0];
-    if labels < 1 {
-        return false;
-    }
-    if labels > 16 {
-        return false;
-    }
-    let beads = buffer[1];
-    if beads < 1 {
-        return false;
-    }
-    if beads > 8 {
-        return false;
-    }
-    if beads_ok(buffer) {
-        return nexts_ok(buffer);
-    }
-    false
+    };
+    (1..=16).contains(&pattern.labels())
+        && (1..=8).contains(&pattern.beads())
+        && beads_ok(&pattern)
+        && pattern.nexts_ok()
 }

@@ -47,7 +47,6 @@ rule_lacks c n h = go (eqb n 2)
     go false = omega arith
 
 rule_again : (n : ℕ) → (n ≡ 1) ⊎ (n ≡ 2) → rule_of (rule_word n) ≡ n
-unfolding same_bytes
 rule_again n (inl e) = rw e
 rule_again n (inr e) = rw e
 

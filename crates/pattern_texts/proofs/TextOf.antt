@@ -37,7 +37,7 @@ abbrev heads : ℕ → Bool
 heads c = is_whole c && (is_header (split 32 (header_bytes c)) && eqb (label_count (split 32 (header_bytes c))) c)
 
 headers_computed : all_below 16 (λ i. heads (i + 1)) ≡ true
-unfolding all_below joined split names_up_to spell_in printable same_fields same_bytes name_bytes are_names among distinct
+unfolding all_below joined split names_up_to spell_in printable same_fields name_bytes are_names among distinct
 headers_computed = refl
 
 header_heads : (c : ℕ) → 1 ≤ c → c ≤ most_labels → Heads c (header_bytes c)

@@ -1,19 +1,19 @@
 -- The lines of a text as the code reads them: the first line, then the rows.
 -- Assumes nothing.
 use mathlib.Core.Path.{◌≡◌, refl, sym, ap, ◌∙◌, subst}
-use mathlib.Core.Bool.{true, false}
+use mathlib.Core.Bool.{Bool, true, false, cond}
 use mathlib.Core.List.{List, [], ◌∷◌, ◌++◌}
 use Prim.Native.Nat.{ℕ, ◌+◌, ◌-◌, ◌^◌, ◌≤◌, ◌<◌}
 use native.Mathlib.Omega.{arith}
-use borrow.Author.Tests.{ne_eqb}
+use borrow.Author.Tests.{ne_eqb, eqb-false}
+use lib.Dec.{eqb}
 use lib.ListN.{length, take, drop}
 use lib.Seq.{length-take-le}
+use Rattle.std.specs.Prelude.{Option, Some, None, Result, Ok, Err}
 use Rattle.text.specs.Split.{split}
 use Rattle.text.specs.Lines.{TextLine, lines_of, line_of, whole}
 use Rattle.text.specs.Walk.{refused, faulty, walk, read_text}
 use Rattle.text.specs.declared.lines.LineFault.{LineFault}
-use Rattle.text.specs.declared.lines.Line.{Line}
-use Rattle.text.specs.declared.lines.Line.TheVariants.{Whole, Broken}
 use Rattle.lists.proofs.Parts.{rest_part}
 use Rattle.text.proofs.WalkLaws.{text_end, text_broken, text_refused, text_passed, lent_whole, line_in, after_in, left_falls, size_empty, size_over, size_right}
 use Rattle.layout.specs.Layout.{most_pattern_text, pattern_length}
@@ -23,19 +23,14 @@ use Rattle.pattern_row.specs.Fields.{row_of}
 use Rattle.pattern_store.specs.Format.{Known, judge_header, judge_row, judge_line, pattern_format}
 use Rattle.pattern_store.specs.Buffer.{buffer_of}
 use Rattle.pattern_line.specs.Answers.{refusal_number}
-use Rattle.pattern_header.specs.Answers.{header_said, header_judged}
-use Rattle.pattern_order.specs.Answers.{line_said, rows_at}
+use Rattle.pattern_header.specs.Answers.{header_judged}
+use Rattle.pattern_order.specs.Answers.{rows_at}
 use Rattle.pattern_row.specs.Answers.{row_judged, next_sets}
 use Rattle.pattern_store.specs.Store.{row_stored}
-use Rattle.pattern_walk.specs.Reading.{HeaderRead, LinesRead}
+use Rattle.pattern_walk.specs.Reading.{Begun, HeaderRead, LinesRead}
 use Rattle.pattern_line.specs.declared.refusals.Refusal.{Refusal}
-use Rattle.pattern_header.specs.declared.HeaderAnswer.{HeaderAnswer}
-use Rattle.pattern_header.specs.declared.HeaderAnswer.TheVariants.{Labels as HeaderLabels, Refused as HeaderRefused}
-use Rattle.pattern_order.specs.declared.Last.{Last}
 use Rattle.pattern_order.specs.declared.LineValues.{LineValues}
-use Rattle.pattern_order.specs.declared.LineAnswer.{LineAnswer}
-use Rattle.pattern_order.specs.declared.LineAnswer.TheVariants.{Values, Refused as LineRefused}
-use Rattle.pattern_store.proofs.RowsLaws.{last_of, last_more, Added, Sound, sound_none}
+use Rattle.pattern_store.proofs.RowsLaws.{Last, last_rows, last_of, last_more, Added, Sound, sound_none}
 use Rattle.pattern_store.proofs.BufferLaws.{Holds, buffer_holds, Says, stored_is}
 use Rattle.pattern_walk.proofs.JudgedLaws.{header_refused, header_passes, last_decides, row_refused, RowPasses, row_passes, row_says, row_added, row_sound, sets_size, sets_are}
 
@@ -59,18 +54,18 @@ module _ (text : List ℕ) where
     pub first_over : 16384 < length text → read_text pattern_format text ≡ faulty 10 0
     first_over h = size_over pattern_format text some h
 
-    module _ (short : length text ≤ 16384) (r : Line) (given : r ≡ line_of 240 text) where
+    module _ (short : length text ≤ 16384) (r : Result ℕ LineFault) (given : r ≡ line_of 240 text) where
       begins : read_text pattern_format text ≡ walk judge_line (record { labels = 0; rows = [] }) 1 (lines_of (drop 0 text))
       begins = size_right pattern_format text some short
 
       given_part : r ≡ line_of 240 (take (length text - 0) (drop 0 text))
       given_part = given ∙ ap (line_of 240) (sym (rest_part text 0))
 
-      pub first_broken : (f : LineFault) → r ≡ Broken f → read_text pattern_format text ≡ faulty 11 1
+      pub first_broken : (f : LineFault) → r ≡ Err f → read_text pattern_format text ≡ faulty 11 1
       first_broken f p =
           text_broken judge_line (record { labels = 0; rows = [] }) 1 text 0 (read_text pattern_format text) begins 240 r given_part 11 not_whole (omega arith) f p
 
-      module _ (e : ℕ) (p : r ≡ Whole e) where
+      module _ (e : ℕ) (p : r ≡ Ok e) where
         pub first_inside : e ≤ length text
         first_inside = let h = line_in text 0 240 r given_part e p in omega arith
 
@@ -86,15 +81,15 @@ module _ (text : List ℕ) where
             (lent_whole judge_line (record { labels = 0; rows = [] }) 1 text 0 (read_text pattern_format text) begins 240 r given_part e p)
             ∙ ap (λ (l : List ℕ). judge_header (fields_of l)) lent_first
 
-        module _ (a : HeaderAnswer) (said : header_said a ≡ header_judged (fields_of (take e text))) where
-          pub first_refused : (f : Refusal) → a ≡ HeaderRefused f → read_text pattern_format text ≡ faulty (refusal_number f) 1
+        module _ (a : Result ℕ Refusal) (said : a ≡ header_judged (fields_of (take e text))) where
+          pub first_refused : (f : Refusal) → a ≡ Err f → read_text pattern_format text ≡ faulty (refusal_number f) 1
           first_refused f q =
               text_refused judge_line (record { labels = 0; rows = [] }) 1 text 0 (read_text pattern_format text) begins 240 r given_part e p (refusal_number f)
-              (judged ∙ header_refused (fields_of (take e text)) f (sym (ap header_said q) ∙ said))
+              (judged ∙ header_refused (fields_of (take e text)) f (sym q ∙ said))
 
-          pub first_labels : (c : ℕ) → a ≡ HeaderLabels c → HeaderRead text c (e + 1)
+          pub first_labels : (c : ℕ) → a ≡ Ok c → HeaderRead text c (e + 1)
           first_labels c q =
-              let h = header_passes (fields_of (take e text)) c (sym (ap header_said q) ∙ said) in
+              let h = header_passes (fields_of (take e text)) c (sym q ∙ said) in
               let z : 0 + e + 1 ≡ e + 1 = omega arith in
               let i = after_in text 0 240 r given_part e p in
               record {
@@ -108,7 +103,7 @@ module _ (text : List ℕ) where
                 inside = omega arith;
               }
 
-pub first_after : (text : List ℕ) (r : Line) → r ≡ line_of 240 text → (e : ℕ) → r ≡ Whole e → length text < 2 ^ 64 → e + 1 < 2 ^ 64
+pub first_after : (text : List ℕ) (r : Result ℕ LineFault) → r ≡ line_of 240 text → (e : ℕ) → r ≡ Ok e → length text < 2 ^ 64 → e + 1 < 2 ^ 64
 first_after text r given e p h = let k = after_in text 0 240 r (given ∙ ap (line_of 240) (sym (rest_part text 0))) e p in omega arith
 
 pub ruleset first_kit = (first_empty, first_over, first_broken, first_inside, first_counts, first_after, first_refused, first_labels)
@@ -116,7 +111,7 @@ pub ruleset first_kit = (first_empty, first_over, first_broken, first_inside, fi
 -- ---- the rows
 
 -- The rows before the place `at`, of which the next line has this number.
-pub record Before (text : List ℕ) (labels at line : ℕ) (last : Last) (buffer : List ℕ) : Type 0 where
+pub record Before (text : List ℕ) (labels at line : ℕ) (last : Option LineValues) (buffer : List ℕ) : Type 0 where
   pub rows : List Row
   pub inside : at ≤ length text
   pub low : 2 ≤ line
@@ -124,7 +119,7 @@ pub record Before (text : List ℕ) (labels at line : ℕ) (last : Last) (buffer
   pub short : length text ≤ most_pattern_text
   pub left : read_text pattern_format text ≡ walk judge_line (record { labels = labels; rows = rows }) line (lines_of (drop at text))
   pub sound : Sound labels rows
-  pub last_is : last ≡ last_of rows
+  pub last_is : rows_at last ≡ last_rows (last_of rows)
   pub numbers : buffer ≡ buffer_of (record { labels = labels; rows = rows })
 
 last_none : last_of [] ≡ record { bead = 0; rule = 0; state = 0 }
@@ -132,7 +127,7 @@ unfolding last_of
 last_none = refl
 
 pub rows_none : (text : List ℕ) (labels start : ℕ) (b : List ℕ) → HeaderRead text labels start → b ≡ buffer_of (record { labels = labels; rows = [] })
-    → Before text labels start 2 (record { bead = 0; rule = 0; state = 0 }) b
+    → Before text labels start 2 None b
 rows_none text labels start b h e =
     let i = h.begun in
     record {
@@ -143,13 +138,29 @@ rows_none text labels start b h e =
       short = h.short;
       left = h.left;
       sound = sound_none labels;
-      last_is = sym last_none;
+      last_is = ap last_rows (sym last_none);
       numbers = e;
     }
 
-module _ (text : List ℕ) (labels at line : ℕ) (last : Last) (buffer : List ℕ) (d : Before text labels at line last buffer) where
+module _ (text : List ℕ) (labels at line : ℕ) (last : Option LineValues) (buffer : List ℕ) (d : Before text labels at line last buffer) where
   pub rows_size : length buffer ≡ pattern_length
   rows_size = ap length d.numbers ∙ (buffer_holds (record { labels = labels; rows = d.rows })).size
+
+  pub rows_begun : Begun last
+  rows_begun = record { bead = λ v e. go (last_of d.rows) v (sym (ap rows_at e) ∙ d.last_is) }
+    where
+      first_bead : List Row → ℕ
+      first_bead [] = 0
+      first_bead (r ∷ rs) = r.bead
+
+      go : (l : Last) (v : LineValues) → rows_at (Some v) ≡ last_rows l → 1 ≤ v.bead
+      go l v e = some (eqb l.bead 0) refl (ap first_bead e) (ap length e)
+        where
+          some : (t : Bool) → eqb l.bead 0 ≡ t
+              → v.bead ≡ first_bead (cond t [] (record { bead = l.bead; rule = l.rule; state = l.state; accepting = 0; next = [] } ∷ []))
+              → 1 ≡ length {A = Row} (cond t [] (record { bead = l.bead; rule = l.rule; state = l.state; accepting = 0; next = [] } ∷ [])) → 1 ≤ v.bead
+          some true f b n = absurd (omega arith)
+          some false f b n = let z = eqb-false l.bead 0 f in omega arith
 
   pub rows_end : length text ≤ at → LinesRead text buffer
   rows_end h =
@@ -159,12 +170,12 @@ module _ (text : List ℕ) (labels at line : ℕ) (last : Last) (buffer : List �
         numbers = d.numbers;
       }
 
-  module _ (r : Line) (given : r ≡ line_of 240 (take (length text - at) (drop at text))) where
-    pub rows_broken : at < length text → (f : LineFault) → r ≡ Broken f → read_text pattern_format text ≡ faulty 11 line
+  module _ (r : Result ℕ LineFault) (given : r ≡ line_of 240 (take (length text - at) (drop at text))) where
+    pub rows_broken : at < length text → (f : LineFault) → r ≡ Err f → read_text pattern_format text ≡ faulty 11 line
     rows_broken h f p =
         text_broken judge_line (record { labels = labels; rows = d.rows }) line text at (read_text pattern_format text) d.left 240 r given 11 not_whole h f p
 
-    module _ (e : ℕ) (p : r ≡ Whole e) where
+    module _ (e : ℕ) (p : r ≡ Ok e) where
       pub row_end : at + e ≤ length text
       row_end = line_in text at 240 r given e p
 
@@ -180,36 +191,36 @@ module _ (text : List ℕ) (labels at line : ℕ) (last : Last) (buffer : List �
       pub rows_left : length text - (at + e + 1) < length text - at
       rows_left = left_falls text at 240 r given e p
 
-    module _ (e : ℕ) (p : r ≡ Whole e) (a : LineAnswer)
-        (said : line_said a ≡ row_judged labels (rows_at last) (fields_of (take (at + e - at) (drop at text)))) where
+    module _ (e : ℕ) (p : r ≡ Ok e) (a : Result LineValues Refusal)
+        (said : a ≡ row_judged labels (rows_at last) (fields_of (take (at + e - at) (drop at text)))) where
       row_judged_lem : judge_line (record { labels = labels; rows = d.rows }) line (record { bytes = take (at + e - at) (drop at text); newline = true })
           ≡ judge_row (record { labels = labels; rows = d.rows }) (fields_of (take (at + e - at) (drop at text)))
       row_judged_lem =
           judge_later (record { labels = labels; rows = d.rows }) line (record { bytes = take (at + e - at) (drop at text); newline = true })
           (lent_whole judge_line (record { labels = labels; rows = d.rows }) line text at (read_text pattern_format text) d.left 240 r given e p) d.low
 
-      said_all : line_said a ≡ row_judged labels d.rows (fields_of (take (at + e - at) (drop at text)))
+      said_all : a ≡ row_judged labels d.rows (fields_of (take (at + e - at) (drop at text)))
       said_all =
-          said ∙ ap (λ (l : Last). row_judged labels (rows_at l) (fields_of (take (at + e - at) (drop at text)))) d.last_is
+          said ∙ ap (λ (rs : List Row). row_judged labels rs (fields_of (take (at + e - at) (drop at text)))) d.last_is
           ∙ last_decides (record { labels = labels; rows = d.rows }) d.sound.orderly (fields_of (take (at + e - at) (drop at text)))
 
-      pub rows_refused : (f : Refusal) → a ≡ LineRefused f → read_text pattern_format text ≡ faulty (refusal_number f) line
+      pub rows_refused : (f : Refusal) → a ≡ Err f → read_text pattern_format text ≡ faulty (refusal_number f) line
       rows_refused f q =
           text_refused judge_line (record { labels = labels; rows = d.rows }) line text at (read_text pattern_format text) d.left 240 r given e p (refusal_number f)
-          (row_judged_lem ∙ row_refused (record { labels = labels; rows = d.rows }) (fields_of (take (at + e - at) (drop at text))) f (sym (ap line_said q) ∙ said_all))
+          (row_judged_lem ∙ row_refused (record { labels = labels; rows = d.rows }) (fields_of (take (at + e - at) (drop at text))) f (sym q ∙ said_all))
 
-      module _ (v : LineValues) (q : a ≡ Values v) where
+      module _ (v : LineValues) (q : a ≡ Ok v) where
         passes : RowPasses (record { labels = labels; rows = d.rows }) (fields_of (take (at + e - at) (drop at text)))
-        passes = row_passes (record { labels = labels; rows = d.rows }) (fields_of (take (at + e - at) (drop at text))) v (sym (ap line_said q) ∙ said_all)
+        passes = row_passes (record { labels = labels; rows = d.rows }) (fields_of (take (at + e - at) (drop at text))) v (sym q ∙ said_all)
 
         says : Says v (row_of (fields_of (take (at + e - at) (drop at text))))
-        says = row_says (record { labels = labels; rows = d.rows }) (fields_of (take (at + e - at) (drop at text))) v (sym (ap line_said q) ∙ said_all)
+        says = row_says (record { labels = labels; rows = d.rows }) (fields_of (take (at + e - at) (drop at text))) v (sym q ∙ said_all)
 
         fits : Added d.rows (row_of (fields_of (take (at + e - at) (drop at text))))
         fits = row_added (record { labels = labels; rows = d.rows }) (fields_of (take (at + e - at) (drop at text))) passes d.sound.orderly
 
         pub rows_more : (after : List ℕ) → after ≡ row_stored buffer a (fields_of (take (at + e - at) (drop at text)))
-            → Before text labels (at + e + 1) (line + 1) (record { bead = v.bead; rule = v.rule; state = v.state }) after
+            → Before text labels (at + e + 1) (line + 1) (Some v) after
         rows_more after w =
             let i = after_in text at 240 r given e p in
             let m = d.low in
@@ -225,23 +236,23 @@ module _ (text : List ℕ) (labels at line : ℕ) (last : Last) (buffer : List �
                   (record { labels = labels; rows = d.rows ++ (row_of (fields_of (take (at + e - at) (drop at text))) ∷ []) }) (row_judged_lem ∙ passes.judged);
               sound = row_sound (record { labels = labels; rows = d.rows }) (fields_of (take (at + e - at) (drop at text))) passes d.sound;
               last_is =
-                  same_last v (row_of (fields_of (take (at + e - at) (drop at text)))) says
-                  ∙ sym (last_more d.rows (row_of (fields_of (take (at + e - at) (drop at text)))));
+                  same_last v (row_of (fields_of (take (at + e - at) (drop at text)))) says fits.bead_low
+                  ∙ ap last_rows (sym (last_more d.rows (row_of (fields_of (take (at + e - at) (drop at text))))));
               numbers =
-                  w ∙ ap (λ (x : LineAnswer). row_stored buffer x (fields_of (take (at + e - at) (drop at text)))) q
+                  w ∙ ap (λ (x : Result LineValues Refusal). row_stored buffer x (fields_of (take (at + e - at) (drop at text)))) q
                   ∙ stored_is (record { labels = labels; rows = d.rows }) (row_of (fields_of (take (at + e - at) (drop at text)))) d.sound.orderly fits buffer
                   (next_sets (fields_of (take (at + e - at) (drop at text))))
                   (subst (Holds (record { labels = labels; rows = d.rows })) (sym d.numbers) (buffer_holds (record { labels = labels; rows = d.rows }))) v says
                   (sets_size (fields_of (take (at + e - at) (drop at text)))) (sets_are (fields_of (take (at + e - at) (drop at text))));
             }
           where
-            same_last : (u : LineValues) (o : Row) → Says u o
-                → ◌≡◌ {A = Last} (record { bead = u.bead; rule = u.rule; state = u.state }) (record { bead = o.bead; rule = o.rule; state = o.state })
-            same_last u o s = rw (s.bead, s.rule, s.state) refl
+            same_last : (u : LineValues) (o : Row) → Says u o → 1 ≤ o.bead → rows_at (Some u) ≡ last_rows (record { bead = o.bead; rule = o.rule; state = o.state })
+            same_last u o s low = rw (s.bead, s.rule, s.state) (sym (rw (ne_eqb o.bead 0 (λ z. absurd (omega arith))) refl))
 
 pub ruleset rows_kit = (
   rows_none,
   rows_size,
+  rows_begun,
   rows_end,
   rows_broken,
   rows_refused,

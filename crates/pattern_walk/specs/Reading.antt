@@ -1,15 +1,13 @@
 -- What the parts of the reader that go over the lines answer.
-use Rattle.std.specs.Prelude.{ℕ, ◌≤◌, ◌≡◌, List, [], length, drop}
+use Rattle.std.specs.Prelude.{ℕ, ◌≤◌, ◌≡◌, List, [], length, drop, Option, Some, Result, Ok, Err}
 use Rattle.text.specs.Lines.{lines_of}
 use Rattle.text.specs.Walk.{accepted, faulty, walk, read_text}
 use Rattle.layout.specs.Layout.{most_pattern_text, most_labels}
 use Rattle.pattern_store.specs.Format.{Known, judge_line, pattern_format}
 use Rattle.pattern_store.specs.Buffer.{buffer_of}
 use Rattle.pattern_line.specs.Answers.{refusal_number}
-use Rattle.pattern_walk.specs.declared.FirstAnswer.{FirstAnswer}
-use Rattle.pattern_walk.specs.declared.FirstAnswer.TheVariants.{Labels, Refused as FirstRefused}
-use Rattle.pattern_walk.specs.declared.RowsAnswer.{RowsAnswer}
-use Rattle.pattern_walk.specs.declared.RowsAnswer.TheVariants.{Stored, Refused as RowsRefused}
+use Rattle.pattern_line.specs.declared.refusals.Fault.{Fault}
+use Rattle.pattern_order.specs.declared.LineValues.{LineValues}
 
 -- The text is of a right size and begins with a header that names so many labels; what is left of it begins at the place `at`.
 pub record HeaderRead (text : List ℕ) (labels at : ℕ) : Type 0 where
@@ -19,12 +17,16 @@ pub record HeaderRead (text : List ℕ) (labels at : ℕ) : Type 0 where
   pub begun : 1 ≤ at
   pub inside : at ≤ length text
 
-abbrev pub FirstTold : List ℕ → FirstAnswer → Type 0
-FirstTold text (Labels count at) = HeaderRead text count at
-FirstTold text (FirstRefused r line) = read_text pattern_format text ≡ faulty (refusal_number r) line
+abbrev pub FirstTold : List ℕ → Result (ℕ × ℕ) Fault → Type 0
+FirstTold text (Ok p) = HeaderRead text p.0 p.1
+FirstTold text (Err f) = read_text pattern_format text ≡ faulty (refusal_number f.refusal) f.line
 
-pub record FirstRead (text : List ℕ) (r : FirstAnswer) : Type 0 where
+pub record FirstRead (text : List ℕ) (r : Result (ℕ × ℕ) Fault) : Type 0 where
   pub told : FirstTold text r
+
+-- The line before, if there is one, is of a bead that is counted from 1.
+pub record Begun (last : Option LineValues) : Type 0 where
+  pub bead : (v : LineValues) → last ≡ Some v → 1 ≤ v.bead
 
 -- All lines of the text pass 11 to 14, and the buffer holds what they say.
 pub record LinesRead (text buffer : List ℕ) : Type 0 where
@@ -32,9 +34,9 @@ pub record LinesRead (text buffer : List ℕ) : Type 0 where
   pub lines : read_text pattern_format text ≡ accepted known
   pub numbers : buffer ≡ buffer_of known
 
-abbrev pub RowsTold : List ℕ → RowsAnswer → List ℕ → Type 0
-RowsTold text Stored buffer = LinesRead text buffer
-RowsTold text (RowsRefused r line) buffer = read_text pattern_format text ≡ faulty (refusal_number r) line
+abbrev pub RowsTold : List ℕ → Result (Unit {0}) Fault → List ℕ → Type 0
+RowsTold text (Ok u) buffer = LinesRead text buffer
+RowsTold text (Err f) buffer = read_text pattern_format text ≡ faulty (refusal_number f.refusal) f.line
 
-pub record RowsRead (text : List ℕ) (r : RowsAnswer) (buffer : List ℕ) : Type 0 where
+pub record RowsRead (text : List ℕ) (r : Result (Unit {0}) Fault) (buffer : List ℕ) : Type 0 where
   pub told : RowsTold text r buffer

@@ -6,98 +6,94 @@ ghost use Rattle.layout.specs.Layout.{pattern_length, most_labels};
 ghost use Rattle.pattern_line.specs.Line.{fields_of};
 ghost use Rattle.pattern_store.specs.Buffer.{buffer_of};
 ghost use Rattle.pattern_order.specs.Answers.{line_said, rows_at};
-ghost use Rattle.pattern_row.specs.Answers.{row_judged};
+ghost use Rattle.pattern_row.specs.Answers.{row_judged, row_said};
 ghost use Rattle.pattern_store.specs.Store.{row_stored};
-ghost use Rattle.pattern_walk.specs.Reading.{HeaderRead, FirstRead, RowsRead};
+ghost use Rattle.pattern_walk.specs.Reading.{Begun, HeaderRead, FirstRead, RowsRead};
 
-use pattern_header::{HeaderAnswer, read_header};
-use pattern_line::refusals::Refusal;
-use pattern_order::{Last, LineAnswer};
+use pattern_header::read_header;
+use pattern_line::refusals::{Fault, Refusal};
+use pattern_order::LineValues;
 use pattern_row::read_row;
 use pattern_store::store_row;
-use text::lines::{Line, read_line};
+use text::lines::read_line;
 
-// How many labels the header names, and where the second line begins. Or the refusal and its line.
-#[derive(Clone, Copy)]
-pub enum FirstAnswer {
-    Labels(u16, usize),
-    Refused(Refusal, u16),
-}
-
-// All rows are stored, or the refusal and its line.
-#[derive(Clone, Copy)]
-pub enum RowsAnswer {
-    Stored,
-    Refused(Refusal, u16),
-}
-
-// The size, then the first line.
-pub fn read_first(text: &[u8]) -> FirstAnswer
+// The size, then the first line: how many labels the header names, and where the second line begins.
+#[tactic(auto, using(crate::proofs::LinesLaws::first_kit))]
+pub fn read_first(text: &[u8]) -> Result<(u16, usize), Fault>
     ensures { FirstRead text.now result }
 {
     if text.len() == 0 {
-        return FirstAnswer::Refused(Refusal::Size, 0);
+        return Err(Fault {
+            refusal: Refusal::Size,
+            line: 0,
+        });
     }
     if text.len() > layout::MOST_PATTERN_TEXT {
-        return FirstAnswer::Refused(Refusal::Size, 0);
+        return Err(Fault {
+            refusal: Refusal::Size,
+            line: 0,
+        });
     }
     match read_line(text, layout::MOST_LINE) {
-        Line::Broken(_) => FirstAnswer::Refused(Refusal::Malformed, 1),
-        Line::Whole(n) => {
+        Err(_) => Err(Fault {
+            refusal: Refusal::Malformed,
+            line: 1,
+        }),
+        Ok(n) => {
             let after = n + 1;
             match read_header(&text[..n]) {
-                HeaderAnswer::Refused(f) => FirstAnswer::Refused(f, 1),
-                HeaderAnswer::Labels(count) => FirstAnswer::Labels(count, after),
+                Err(refusal) => Err(Fault { refusal, line: 1 }),
+                Ok(count) => Ok((count, after)),
             }
         }
     }
 }
 
 // What a line says after the line before; where it passes, it is stored.
-fn take_row(line: &[u8], labels: u16, last: Last, buffer: &mut [u16]) -> LineAnswer
-    requires { (labels ≤ most_labels) × (length buffer.old ≡ pattern_length) }
-    ensures result_value { line_said result ≡ row_judged labels (rows_at last) (fields_of line.now) }
+#[tactic(auto, using(crate::proofs::JudgedLaws::take_kit))]
+fn take_row(
+    line: &[u8],
+    labels: u16,
+    last: Option<LineValues>,
+    buffer: &mut [u16],
+) -> Result<LineValues, Refusal>
+    requires { (labels ≤ most_labels) × (length buffer.old ≡ pattern_length) × Begun last }
+    ensures result_value { result ≡ row_judged labels (rows_at last) (fields_of line.now) }
+    ensures said { line_said result ≡ row_said labels (rows_at last) (fields_of line.now) }
     ensures buffer_after { buffer.new ≡ row_stored buffer.old result (fields_of line.now) }
 {
     let mut next = [0u16; 16];
-    match read_row(line, labels, last, &mut next) {
-        LineAnswer::Refused(f) => LineAnswer::Refused(f),
-        LineAnswer::Values(v) => {
-            store_row(buffer, v, &next);
-            LineAnswer::Values(v)
-        }
-    }
+    let values = read_row(line, labels, last, &mut next)?;
+    store_row(buffer, values, &next);
+    Ok(values)
 }
 
-// The lines from the second on, each stored as it passes. Before them the buffer holds the label count alone.
-pub fn read_rows(text: &[u8], start: usize, labels: u16, buffer: &mut [u16]) -> RowsAnswer
+// The lines from the second on, each stored as it passes. Before them the buffer holds the label count alone. The place goes on by a line's
+// length, so no `for` counts it.
+#[tactic(auto, using(crate::proofs::LinesLaws::rows_kit))]
+pub fn read_rows(text: &[u8], start: usize, labels: u16, buffer: &mut [u16]) -> Result<(), Fault>
     requires { HeaderRead text.now labels start × (buffer.old ≡ buffer_of (record { labels = labels; rows = [] })) }
     ensures { RowsRead text.now result buffer.new }
 {
-    let mut last = Last {
-        bead: 0,
-        rule: 0,
-        state: 0,
-    };
+    let mut last = None;
     let mut at = start;
     let mut line = 2;
     while at < text.len() {
         match read_line(&text[at..], layout::MOST_LINE) {
-            Line::Broken(_) => {
-                return RowsAnswer::Refused(Refusal::Malformed, line);
+            Err(_) => {
+                return Err(Fault {
+                    refusal: Refusal::Malformed,
+                    line,
+                });
             }
-            Line::Whole(n) => {
+            Ok(n) => {
                 let end = at + n;
                 match take_row(&text[at..end], labels, last, buffer) {
-                    LineAnswer::Refused(f) => {
-                        return RowsAnswer::Refused(f, line);
+                    Err(refusal) => {
+                        return Err(Fault { refusal, line });
                     }
-                    LineAnswer::Values(v) => {
-                        last = Last {
-                            bead: v.bead,
-                            rule: v.rule,
-                            state: v.state,
-                        };
+                    Ok(values) => {
+                        last = Some(values);
                         at = end + 1;
                         line += 1;
                     }
@@ -105,5 +101,5 @@ pub fn read_rows(text: &[u8], start: usize, labels: u16, buffer: &mut [u16]) -> 
             }
         }
     }
-    RowsAnswer::Stored
+    Ok(())
 }

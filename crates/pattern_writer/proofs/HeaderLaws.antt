@@ -9,48 +9,41 @@ use borrow.Author.Tests.{eqb-true}
 use lib.Dec.{eqb, leb}
 use lib.ListN.{length, get_or, take, drop, length-drop, drop_of_length-le}
 use lib.Seq.{length-take-le}
+use Rattle.std.specs.Prelude.{Result, Ok, Err}
 use Rattle.text.specs.Split.{split, joined}
 use Rattle.text.specs.Lines.{TextLine, last_line, as_lines, lines_of, line_of, whole}
 use Rattle.text.specs.declared.lines.LineFault.{LineFault}
-use Rattle.text.specs.declared.lines.Line.{Line}
-use Rattle.text.specs.declared.lines.Line.TheVariants.{Whole, Broken}
 use Rattle.text.proofs.SplitLaws.{joined_split}
 use Rattle.text.proofs.LineLaws.{Lead, unended, ends, lead_of}
 use Rattle.text.proofs.Spelled.{no_lines}
 use Rattle.text.proofs.WalkLaws.{next_line, stuck_line}
-use Rattle.pattern_line.specs.Answers.{Said, refusal}
 use Rattle.pattern_line.specs.declared.refusals.Refusal.{Refusal}
+use Rattle.pattern_line.specs.declared.refusals.Refusal.TheVariants.{Header}
 use Rattle.pattern_header.specs.Header.{is_header, label_count}
-use Rattle.pattern_header.specs.Answers.{header_said, header_judged}
-use Rattle.pattern_header.specs.declared.HeaderAnswer.{HeaderAnswer}
-use Rattle.pattern_header.specs.declared.HeaderAnswer.TheVariants.{Labels, Refused}
+use Rattle.pattern_header.specs.Answers.{header_judged}
 use Rattle.pattern_texts.specs.Spelled.{Heads}
 use Rattle.sets.proofs.Truth.{both_true}
 use Rattle.pattern_writer.specs.Writer.{names, one_header, header_fits}
 
 -- ---- the line's fields
 
-module _ (c : ℕ) (line : List ℕ) (r : HeaderAnswer) (e : header_said r ≡ header_judged (split 32 line)) where
-  abbrev counted : Bool → ℕ
-  counted t = length (cond t (record { number = 0; values = label_count (split 32 line) ∷ [] }) (refusal 12)).values
-
-  pub unnamed : (f : Refusal) → r ≡ Refused f → false ≡ names c line
+module _ (c : ℕ) (line : List ℕ) (r : Result ℕ Refusal) (e : r ≡ header_judged (split 32 line)) where
+  pub unnamed : (f : Refusal) → r ≡ Err f → false ≡ names c line
   unfolding header_judged
-  unnamed f p = go (is_header (split 32 line)) refl (ap (λ (s : Said). length s.values) (sym (ap header_said p) ∙ e))
+  unnamed f p = go (is_header (split 32 line)) refl (sym p ∙ e)
     where
-      go : (t : Bool) → is_header (split 32 line) ≡ t → 0 ≡ counted t → false ≡ names c line
+      go : (t : Bool) → is_header (split 32 line) ≡ t → ◌≡◌ {A = Result ℕ Refusal} (Err f) (cond t (Ok (label_count (split 32 line))) (Err Header)) → false ≡ names c line
       go false h z = rw h refl
-      go true h z = absurd (omega arith)
+      go true h z = let y : ◌≡◌ {A = ℕ} 0 1 = cc in absurd (omega arith)
 
-  pub named : (n : ℕ) → r ≡ Labels n → eqb n c ≡ names c line
+  pub named : (n : ℕ) → r ≡ Ok n → eqb n c ≡ names c line
   unfolding header_judged
-  named n p = go (is_header (split 32 line)) refl (sym (ap header_said p) ∙ e)
+  named n p = go (is_header (split 32 line)) refl (sym p ∙ e)
     where
-      go : (t : Bool) → is_header (split 32 line) ≡ t
-          → record { number = 0; values = n ∷ [] } ≡ cond t (record { number = 0; values = label_count (split 32 line) ∷ [] }) (refusal 12)
+      go : (t : Bool) → is_header (split 32 line) ≡ t → ◌≡◌ {A = Result ℕ Refusal} (Ok n) (cond t (Ok (label_count (split 32 line))) (Err Header))
           → eqb n c ≡ names c line
-      go true h z = rw h (ap (λ (s : Said). eqb (get_or s.values 0 0) c) z)
-      go false h z = let y : ◌≡◌ {A = ℕ} 1 0 = ap (λ (s : Said). length s.values) z in absurd (omega arith)
+      go true h z = let y : n ≡ label_count (split 32 line) = cc in rw h (ap (λ (k : ℕ). eqb k c) y)
+      go false h z = let y : ◌≡◌ {A = ℕ} 0 1 = cc in absurd (omega arith)
 
 pub ruleset name_kit = (unnamed, named)
 
@@ -68,8 +61,8 @@ some_line m h = go (lead_of m)
     go (unended f s) = let r = last m h in (r.0, r.1, s ∙ r.2)
     go (ends n i f s) = (record { bytes = take n m; newline = true }, lines_of (drop (n + 1) m), s)
 
-module _ (c : ℕ) (header : List ℕ) (r : Line) (given : r ≡ line_of 240 header) where
-  pub broken : (f : LineFault) → r ≡ Broken f → false ≡ header_fits c header
+module _ (c : ℕ) (header : List ℕ) (r : Result ℕ LineFault) (given : r ≡ line_of 240 header) where
+  pub broken : (f : LineFault) → r ≡ Err f → false ≡ header_fits c header
   unfolding header_fits
   broken f p = go header refl
     where
@@ -83,7 +76,7 @@ module _ (c : ℕ) (header : List ℕ) (r : Line) (given : r ≡ line_of 240 hea
           let s = stuck_line 240 header f (let z = ap length e in omega arith) (sym given ∙ p) in
           stuck s.first s.others s.not_whole ∙ sym (ap (one_header c) s.lines)
 
-  module _ (n : ℕ) (p : r ≡ Whole n) where
+  module _ (n : ℕ) (p : r ≡ Ok n) where
     inside : n < length header
     inside = (next_line 240 header n (sym given ∙ p)).inside
 

@@ -6,34 +6,35 @@ ghost use Rattle.writing.specs.Put.{Put};
 ghost use Rattle.answer.specs.Answers.{refused_in};
 ghost use Rattle.pattern_byte.specs.Header.{header_text_at};
 ghost use Rattle.pattern_buffer.specs.Valid.{is_pattern};
-ghost use Rattle.pattern_texts.specs.Spelled.{text_under};
 ghost use Rattle.pattern_writer.specs.Writer.{names, header_fits, written, room_faults, test_faults, write_answer, text_after};
 ghost use Rattle.pattern_writer.specs.Tested.{Tested, answer_under, text_under_faults};
 
 use answer::Answer;
 use pattern_byte::header_byte;
-use pattern_header::{HeaderAnswer, read_header};
+use pattern_header::read_header;
 use pattern_layout::put_beads;
-use text::lines::{Line, read_line};
-use writing::put_bytes;
+use text::lines::read_line;
+use writing::Output;
 
 // Is the line a header that names so many labels?
+#[tactic(auto, using(crate::proofs::HeaderLaws::name_kit))]
 fn names_labels(labels: u16, line: &[u8]) -> bool
     ensures { result ≡ names labels line.now }
 {
     match read_header(line) {
-        HeaderAnswer::Refused(_) => false,
-        HeaderAnswer::Labels(count) => count == labels,
+        Err(_) => false,
+        Ok(count) => count == labels,
     }
 }
 
 // Is the header text one such line, whole and with nothing behind it?
+#[tactic(auto, using(crate::proofs::HeaderLaws::header_kit))]
 fn header_fits(labels: u16, header: &[u8]) -> bool
     ensures { result ≡ header_fits labels header.now }
 {
     match read_line(header, layout::MOST_LINE) {
-        Line::Broken(_) => false,
-        Line::Whole(n) => {
+        Err(_) => false,
+        Ok(n) => {
             if n + 1 < header.len() {
                 return false;
             }
@@ -43,30 +44,34 @@ fn header_fits(labels: u16, header: &[u8]) -> bool
 }
 
 // The output, from the front of a buffer, as far as there are places: the header text as it is, then the rows. Answers how long it is.
+#[tactic(auto, using(crate::proofs::WriteLaws::output_kit))]
 fn put_pattern(out: &mut [u8], pattern: &[u16], header: &[u8]) -> usize
     requires { T (is_pattern pattern.now) }
-    ensures { Put (text_under header.now pattern.now) 0 out.old result out.new }
+    ensures { Put (written header.now pattern.now) 0 out.old result out.new }
 {
-    let next = put_bytes(out, 0, header);
-    put_beads(out, next, pattern)
+    let mut output = Output::new(out);
+    output.put_bytes(header);
+    put_beads(&mut output, pattern);
+    output.at
 }
 
-// How long the output is: it is put into no place of the text buffer, which stays as it was.
-fn measure(pattern: &[u16], header: &[u8], text: &mut [u8]) -> usize
+// How long the output is: put where there are no places.
+fn measure(pattern: &[u16], header: &[u8]) -> usize
     requires { T (is_pattern pattern.now) }
-    ensures value { result ≡ length (written header.now pattern.now) }
-    ensures text_unchanged { text.new ≡ text.old }
+    ensures { result ≡ length (written header.now pattern.now) }
 {
-    put_pattern(&mut text[..0], pattern, header)
+    let mut nowhere = [0u8; 0];
+    put_pattern(&mut nowhere, pattern, header)
 }
 
 // Test 8, and the output, of a pattern and a header that passed their tests.
+#[tactic(auto, using(crate::proofs::WriteLaws::text_kit))]
 fn write_text(pattern: &[u16], header: &[u8], text: &mut [u8]) -> Answer
     requires { Tested pattern.now header.now }
     ensures value { result ≡ answer_under (room_faults pattern.now header.now text.old) pattern.now header.now }
     ensures text_after { text.new ≡ text_under_faults (room_faults pattern.now header.now text.old) pattern.now header.now text.old }
 {
-    let n = measure(pattern, header, text);
+    let n = measure(pattern, header);
     if text.len() < n {
         return answer::refused(8, 0);
     }
@@ -82,24 +87,24 @@ fn refuse_header(header: &[u8]) -> Answer
 }
 
 // Tests 6 and 12, and the rest, on a pattern buffer of its documented length.
+#[tactic(auto, using(answer::proofs::FaultSteps::fault_steps))]
 fn write_fit(pattern: &[u16], header: &[u8], text: &mut [u8]) -> Answer
     requires { 0 < length pattern.now }
     ensures value { result ≡ answer_under (test_faults pattern.now header.now text.old) pattern.now header.now }
     ensures text_after { text.new ≡ text_under_faults (test_faults pattern.now header.now text.old) pattern.now header.now text.old }
 {
-    let known = pattern_test::is_pattern(pattern);
-    if known {
-        let fits = header_fits(pattern[0], header);
-        if fits {
-            return write_text(pattern, header, text);
-        }
+    if !pattern_test::is_pattern(pattern) {
+        return answer::refused(6, 0);
+    }
+    if !header_fits(pattern[0], header) {
         return refuse_header(header);
     }
-    answer::refused(6, 0)
+    write_text(pattern, header, text)
 }
 
 // Writes a pattern under a header text. Accepted, the output stands in front of the text buffer, and its length is the count; refused,
 // the text buffer is as it was.
+#[tactic(auto, using(answer::proofs::FaultSteps::fault_steps))]
 pub fn write_pattern(pattern: &[u16], header: &[u8], text: &mut [u8]) -> Answer
     ensures value { result ≡ write_answer pattern.now header.now text.old }
     ensures text_after { text.new ≡ text_after pattern.now header.now text.old }

@@ -8,85 +8,85 @@
 // how many bytes of the text room are lent, 70,000 without it. The pattern's room has six numbers more than the format uses, marks.
 #![tactic(auto)]
 
-use std::io;
+use answer::Answer;
+use settings::Settings;
 use std::rt::Files;
+use std::{fs, io};
+use text_room::{Case, Kind, Kinds, Writer, try_writer};
+use trial::column;
 
-mod calls;
-mod lend;
-mod written;
+const OWN_HEADER: Kind = Kind::Own(0);
 
-const OWN_HEADER: usize = 15;
+const OTHER_HEADER: Kind = Kind::Own(1);
 
-const OTHER_HEADER: usize = 16;
+// The pattern writer with its header text.
+#[derive(Clone, Copy)]
+struct PatternWriter<'a> {
+    header: &'a [u8],
+}
+
+impl<'a> Writer for PatternWriter<'a> {
+    const LENT: char = 'P';
+
+    const USED: usize = 2074;
+
+    fn write(&self, room: &[u16], text: &mut [u8]) -> Answer {
+        pattern_writer::write_pattern(room, self.header, text)
+    }
+
+    fn read(&self, text: &[u8], room: &mut [u16]) -> Answer {
+        pattern::read_pattern(text, room)
+    }
+
+    fn header(&self) -> &[u8] {
+        self.header
+    }
+
+    fn print_kept(rt: &impl Print, room_kept: bool, header_kept: bool) -> io::Result<()> {
+        outcome::print_claim(rt, "; pattern kept", room_kept)?;
+        outcome::print_claim(rt, ", header kept", header_kept)
+    }
+}
 
 fn main(rt: HostRuntime) -> io::Result<()> {
-    let mut kinds = [0u64; 17];
-    try_file(&rt, b"cases.txt", &mut kinds)?;
-    try_file(&rt, b"texts.txt", &mut kinds)?;
-    text_room::print_kinds(&rt, &kinds)
-}
-
-fn try_file(rt: &(impl Files + Print), path: &[u8], kinds: &mut [u64]) -> io::Result<()> {
-    let mut file = [0u8; 65536];
-    let n = trial::load(rt, path, &mut file);
-    try_cases(rt, &file[..n], kinds)
-}
-
-fn try_cases(rt: &(impl Files + Print), file: &[u8], kinds: &mut [u64]) -> io::Result<()> {
-    let mut at = 0;
-    while at < file.len() {
-        let end = trial::find_byte(file, at, b'\n');
-        try_case(rt, trial::part(file, at, end), kinds)?;
-        at = end + 1;
+    let mut kinds = Kinds::new();
+    for path in ["cases.txt", "texts.txt"] {
+        let file = fs::read_to_string(&rt, path)?;
+        for line in file.lines() {
+            try_case(&rt, line, &mut kinds)?;
+        }
     }
-    Ok(())
+    kinds.print(&rt)
 }
 
-fn try_case(rt: &(impl Files + Print), line: &[u8], kinds: &mut [u64]) -> io::Result<()> {
-    let mut text = [0u8; 17000];
-    let n = script::load(rt, trial::column(line, 1), b"pattern.txt", &mut text);
-    read_text(rt, line, &text[..n], kinds)
-}
-
-// A text that the reader refuses gives no room.
-fn read_text(rt: &impl Print, line: &[u8], text: &[u8], kinds: &mut [u64]) -> io::Result<()> {
-    let mut pattern = [0u16; 2080];
-    outcome::mark(&mut pattern);
-    let a = calls::read_pattern(text, &mut pattern);
-    if a.number > 0 {
-        text_room::count_unread(kinds);
+fn try_case(
+    rt: &(impl Files + Print + AllocGlobal),
+    line: &str,
+    kinds: &mut Kinds,
+) -> io::Result<()> {
+    let settings = Settings::new(column(line, 2));
+    let text = script::load(rt, column(line, 1), "pattern.txt", 17000)?;
+    let mut pattern = outcome::marked(rt.alloc(), 2080)?;
+    if pattern::read_pattern(&text, &mut pattern).number > 0 {
+        kinds.add(Kind::Unread);
         return Ok(());
     }
-    text_room::change(trial::column(line, 2), b'p', &mut pattern, kinds);
-    find_header(rt, line, text, &pattern, kinds)
-}
+    kinds.change(settings, 'p', &mut pattern);
 
-fn find_header(
-    rt: &impl Print,
-    line: &[u8],
-    text: &[u8],
-    pattern: &[u16],
-    kinds: &mut [u64],
-) -> io::Result<()> {
-    let script = trial::column(line, 3);
-    if script.len() > 0 {
-        tallies::add(kinds, OTHER_HEADER, 1);
-        return expand_header(rt, line, text, script, pattern, kinds);
-    }
-    tallies::add(kinds, OWN_HEADER, 1);
-    let header = trial::front(text, trial::find_byte(text, 0, b'\n') + 1);
-    written::try_write(rt, line, text, header, pattern, kinds)
-}
-
-fn expand_header(
-    rt: &impl Print,
-    line: &[u8],
-    text: &[u8],
-    script: &[u8],
-    pattern: &[u16],
-    kinds: &mut [u64],
-) -> io::Result<()> {
-    let mut header = [0u8; 1000];
-    let n = script::expand(script, &mut header);
-    written::try_write(rt, line, text, &header[..n], pattern, kinds)
+    let header_script = column(line, 3);
+    let other_header = script::expand(rt.alloc(), header_script, 1000)?;
+    let header = if header_script.is_empty() {
+        kinds.add(OWN_HEADER);
+        text.split_inclusive(|b| *b == b'\n').next().unwrap_or(&[])
+    } else {
+        kinds.add(OTHER_HEADER);
+        &other_header
+    };
+    let case = Case {
+        name: column(line, 0),
+        settings,
+        text: &text,
+        room: &pattern,
+    };
+    try_writer(rt, &case, &PatternWriter { header }, kinds)
 }

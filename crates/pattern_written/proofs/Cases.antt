@@ -61,7 +61,7 @@ two = record {
 }
 
 reads : pattern_text (header ++ lines) ≡ accepted two
-unfolding header lines walk as_lines split printable same_bytes digits value_from decimal same_fields name_bytes are_names among distinct follows_last breaks_turns states_of all_within all_single members_from are_numbers
+unfolding header lines walk as_lines split printable digits value_from decimal same_fields name_bytes are_names among distinct follows_last breaks_turns states_of all_within all_single members_from are_numbers
 reads = refl
 
 -- ---- what the answer depends on
@@ -227,11 +227,11 @@ abbrev pub leaves : Call → List ℕ
 leaves c = cond c.holds (header ++ lines ++ replicate (c.room - 49) 9) (room_of c)
 
 answered : map (λ c. answer_by (facts_by c.kind) c.head (room_of c)) calls ≡ map (λ c. c.answer) calls
-unfolding calls faulty header lines header_fits header_text_at ranked_at place_at part_start leftmost_from unprintable_place wrong_name first_fault answer_or as_lines split printable same_bytes same_fields name_bytes are_names among distinct
+unfolding calls faulty header lines header_fits header_text_at ranked_at place_at part_start leftmost_from unprintable_place wrong_name first_fault answer_or as_lines split printable same_fields name_bytes are_names among distinct
 answered = refl
 
 left : map (λ c. text_by (facts_by c.kind) c.head (room_of c)) calls ≡ map leaves calls
-unfolding calls faulty header lines header_fits first_fault kept_or as_lines split printable same_bytes same_fields name_bytes are_names among distinct
+unfolding calls faulty header lines header_fits first_fault kept_or as_lines split printable same_fields name_bytes are_names among distinct
 left = refl
 
 -- Each call has its answer,

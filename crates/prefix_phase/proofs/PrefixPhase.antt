@@ -5,7 +5,7 @@ use mathlib.Core.Path.{◌≡◌, sym, ap, ◌∙◌}
 use mathlib.Core.Logic.{◌⊎◌, inl, inr}
 use mathlib.Core.Bool.{Bool, true, false, ◌&&◌, ◌||◌, or-false}
 use mathlib.Core.List.{List}
-use native.Mathlib.Nat.{div-add-mod', lt_of_lt_of_le, mul-le-mul_right, suc-mul}
+use native.Mathlib.Nat.{lt_of_lt_of_le, mul-le-mul_right, suc-mul}
 use native.Mathlib.Numerals.{add-one}
 use native.Mathlib.Decide.{ℕ_discrete, dec_lt}
 use native.Mathlib.Omega.{arith}
@@ -138,11 +138,3 @@ marked_all G P n i marks few e m v l =
       where
         not_less : (k < P.count → ⊥) → P.count ≤ k
         not_less c = omega arith
-
--- All prefixes of fewer beads are marked before a turn.
-pub marked_earlier : (G : Dag) (P : Pattern) (n i : ℕ) (marks : List ℕ) → MarkedUpTo G P n i marks → 0 < n → (k v : ℕ) → k < i / n → k < 16 → v < n
-    → member k (get_or marks v 0) ≡ holds? G P (suc k) v
-marked_earlier G P n i marks m some k v h f l =
-    let q : k * n + v < i / n * n = digits_lt h l in
-    let e = div-add-mod' i n in
-    marked_whole G P n marks i m k v f l (omega arith)

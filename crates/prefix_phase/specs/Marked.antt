@@ -4,9 +4,9 @@ use Rattle.sets.specs.Sets.{member, some_below}
 use Rattle.necklace.specs.Dag.{Dag}
 use Rattle.necklace.specs.Necklace.{Pattern}
 use Rattle.necklace.specs.Compute.{serves?, prefixes}
-use Rattle.pattern_buffer.specs.Meaning.{labels_in, beads_in, pattern_of}
+use Rattle.pattern_buffer.specs.Meaning.{labels_in, pattern_of}
 use Rattle.pattern_buffer.specs.Valid.{is_pattern}
-use Rattle.log_buffer.specs.Meaning.{steps_in, log_of}
+use Rattle.log_buffer.specs.Meaning.{log_of}
 use Rattle.log_buffer.specs.Valid.{is_log}
 use Rattle.marking.specs.Marking.{Added}
 use Rattle.serving.specs.Serving.{serves_in}
@@ -15,12 +15,6 @@ use Rattle.serving.specs.Serving.{serves_in}
 pub record Tried (pattern log : List ℕ) : Type 0 where
   pub pattern_passes : T (is_pattern pattern)
   pub log_passes : T (is_log (labels_in pattern) log)
-
--- How many turns the phase has: one for each bead and each of the n steps.
-pub record Turns (pattern log : List ℕ) (n turns : ℕ) : Type 0 where
-  pub tried : Tried pattern log
-  pub steps_are : n ≡ steps_in log
-  pub turns_are : turns ≡ beads_in pattern * n
 
 -- No prefix is marked.
 pub record Unmarked (prefixes : List ℕ) : Type 0 where

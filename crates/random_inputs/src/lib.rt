@@ -1,12 +1,16 @@
-// Random patterns and logs, made straight as buffers, and one number of a buffer changed. A buffer is all zeros before it is drawn.
-// Each function that draws takes the generator by value and answers it as it is after its draws.
+// Random patterns and logs, and one number of a room changed.
 #![tactic(auto)]
 
+mod below;
 mod changes;
+mod labels;
 mod links;
 mod logs;
 mod patterns;
 
-pub use changes::{add_power, reduced};
-pub use logs::{any_labels, draw_log, draw_step, one_label};
+pub use below::{any_below, one_below, reduced};
+pub use changes::add_power;
+pub use labels::Labels;
+pub use links::Links;
+pub use logs::{Shape, draw_log, draw_step};
 pub use patterns::draw_pattern;

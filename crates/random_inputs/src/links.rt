@@ -1,6 +1,17 @@
 // The links into a step: one, or some with a drawn gap from each to the next.
-use crate::changes::reduced;
+use crate::below::reduced;
+use places::LogRoom;
 use trial::Random;
+
+// Where they come from.
+#[derive(Clone, Copy)]
+pub enum Links {
+    Chain,
+    Tree,
+    Near,
+    LastEight,
+    Scattered,
+}
 
 #[derive(Clone, Copy)]
 struct Way {
@@ -9,88 +20,46 @@ struct Way {
     most: u64,
 }
 
-// Kind 0 is a chain, 1 a tree, 2 near links, 3 the last eight steps, 4 links scattered over all earlier steps, and any other is one of
-// these for each step.
-pub fn draw_links(log: &mut [u16], w: u16, kind: u64, from: Random) -> Random {
-    let own = from.next();
-    let at = own.next();
-    let way = way_of(kind_of(kind, own.below(5)), w, at.below(65536) as u16);
-    let most = at.next();
-    add_links(log, w, way.first, way.gap, 1 + most.below(way.most), most)
-}
+impl Links {
+    pub const WAYS: [Links; 5] = [
+        Links::Chain,
+        Links::Tree,
+        Links::Near,
+        Links::LastEight,
+        Links::Scattered,
+    ];
 
-fn kind_of(kind: u64, own: u64) -> u64 {
-    if kind < 5 {
-        return kind;
-    }
-    own
-}
-
-fn way_of(kind: u64, w: u16, x: u16) -> Way {
-    match kind {
-        0 => Way {
-            first: before(w, 1),
-            gap: 1,
-            most: 1,
-        },
-        1 => Way {
-            first: reduced(x, w),
-            gap: 1,
-            most: 1,
-        },
-        2 => Way {
-            first: before(w, 1 + x % 4),
-            gap: 2,
-            most: 4,
-        },
-        3 => Way {
-            first: before(w, 8),
-            gap: 1,
-            most: 8,
-        },
-        _ => Way {
-            first: reduced(x, w),
-            gap: 1 + w as u64 / 4,
-            most: 8,
-        },
+    // How the links into w are drawn.
+    fn way(self, w: u16, x: u16) -> Way {
+        let (first, gap, most) = match self {
+            Links::Chain => (w.saturating_sub(1), 1, 1),
+            Links::Tree => (reduced(x, w), 1, 1),
+            Links::Near => (w.saturating_sub(1 + x % 4), 2, 4),
+            Links::LastEight => (w.saturating_sub(8), 1, 8),
+            Links::Scattered => (reduced(x, w), 1 + u64::from(w) / 4, 8),
+        };
+        Way { first, gap, most }
     }
 }
 
-// The step d before w, or step 0.
-fn before(w: u16, d: u16) -> u16 {
-    if w < d {
-        return 0;
-    }
-    w - d
+// The links into w, the last step; where no way is given, one is drawn for this step.
+pub fn draw_links(log: &mut LogRoom, w: u16, links: Option<Links>, random: &mut Random) {
+    let drawn = Links::WAYS[random.draw(5) as usize];
+    let x = random.draw(65536) as u16;
+    let way = links.unwrap_or(drawn).way(w, x);
+    let count = 1 + random.draw(way.most);
+    way.add_links(log, w, count, random);
 }
 
-// At most `most` links, all smaller than w.
-fn add_links(log: &mut [u16], w: u16, first: u16, gap: u64, most: u64, from: Random) -> Random {
-    let mut r = from;
-    let mut p = first;
-    let mut i = 0;
-    while i < most {
-        add_below(log, w, p);
-        r = r.next();
-        p = later(p, r.below(gap));
-        i += 1;
+impl Way {
+    // At most `count` links, all from steps before w.
+    fn add_links(self, log: &mut LogRoom, w: u16, count: u64, random: &mut Random) {
+        let mut from = u64::from(self.first);
+        for _ in 0..count {
+            if from < u64::from(w) {
+                log.add_link(from as u16);
+            }
+            from = from.saturating_add(1 + random.draw(self.gap));
+        }
     }
-    r
-}
-
-fn add_below(log: &mut [u16], w: u16, p: u16) {
-    if p < w {
-        places::add_link(log, p);
-    }
-}
-
-// The step after p, and d on; not past 65535.
-fn later(p: u16, d: u64) -> u16 {
-    if d > 1000 {
-        return 65535;
-    }
-    if p > 60000 {
-        return 65535;
-    }
-    p + 1 + d as u16
 }

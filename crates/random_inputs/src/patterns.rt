@@ -1,31 +1,93 @@
 // Patterns of all shapes.
-use places::only;
+use crate::below::{all_below, any_below, one_below};
+use places::{PatternRoom, Rule};
 use trial::Random;
 
-// A pattern of this many beads.
-pub fn draw_pattern(pattern: &mut [u16], beads: u16, from: Random) -> Random {
-    let shape = from.next();
-    let size = shape.next();
-    let labels = label_count(shape.below(4), size.below(16) as u16);
-    places::set_counts(pattern, labels, beads);
-    let rule = size.next();
-    let mild = rule.next();
-    draw_beads(
-        pattern,
-        labels,
-        beads,
-        rule.below(2) as u16,
-        least_kind(mild.below(3)),
-        mild,
-    )
+// How the next sets of a bead are drawn.
+#[derive(Clone, Copy)]
+enum NextSets {
+    // At most one state.
+    Sparse,
+    One,
+    Quarter,
+    Half,
 }
 
-// In two patterns of three most states are final: a pattern of many beads seldom holds else.
-fn least_kind(mild: u64) -> u64 {
-    if mild == 0 {
-        return 0;
+impl NextSets {
+    const WAYS: [NextSets; 4] = [
+        NextSets::Sparse,
+        NextSets::One,
+        NextSets::Quarter,
+        NextSets::Half,
+    ];
+
+    fn draw(self, states: u16, random: &mut Random) -> u16 {
+        let x = random.draw(65536) as u16;
+        match self {
+            NextSets::Sparse if x % 3 == 0 => 0,
+            NextSets::Sparse | NextSets::One => one_below(states, x),
+            NextSets::Quarter => any_below(states, x & x >> 3),
+            NextSets::Half => any_below(states, x),
+        }
     }
-    4
+}
+
+// Which states of a bead are final.
+#[derive(Clone, Copy)]
+enum Finals {
+    Any,
+    One,
+    NoState,
+    Most,
+    AllButOne,
+    All,
+}
+
+impl Finals {
+    const WAYS: [Finals; 8] = [
+        Finals::Any,
+        Finals::One,
+        Finals::NoState,
+        Finals::Most,
+        Finals::AllButOne,
+        Finals::AllButOne,
+        Finals::All,
+        Finals::All,
+    ];
+
+    // With `mild` they are all states or all but one.
+    fn draw(mild: bool, states: u16, random: &mut Random) -> u16 {
+        let way = random.draw(8) as usize;
+        let x = random.draw(65536) as u16;
+        match Finals::WAYS[if mild { 4 + way % 4 } else { way }] {
+            Finals::Any => any_below(states, x),
+            Finals::One => one_below(states, x),
+            Finals::NoState => 0,
+            Finals::Most => any_below(states, x | x >> 5),
+            Finals::AllButOne => any_below(states, !one_below(states, x)),
+            Finals::All => all_below(states),
+        }
+    }
+}
+
+// A pattern of this many beads, the rules by turns.
+pub fn draw_pattern(beads: u16, random: &mut Random) -> PatternRoom {
+    let mut pattern = PatternRoom::new();
+    let shape = random.draw(4);
+    let labels = label_count(shape, random.draw(16) as u16);
+    pattern.set_counts(labels, beads);
+    let first = random.draw(2);
+    // In two patterns of three most states are final: a pattern of many beads seldom holds else.
+    let mild = random.draw(3) != 0;
+    for bead in 0..beads {
+        let rule = if u64::from(bead % 2) == first {
+            Rule::ForSome
+        } else {
+            Rule::ForAll
+        };
+        draw_bead(&mut pattern, bead, rule, mild, random);
+    }
+    pattern
 }
 
 // Often few, so that steps share labels.
@@ -38,54 +100,22 @@ fn label_count(shape: u64, size: u16) -> u16 {
     }
 }
 
-fn draw_beads(
-    pattern: &mut [u16],
-    labels: u16,
-    beads: u16,
-    first: u16,
-    least: u64,
-    from: Random,
-) -> Random {
-    let mut r = from;
-    let mut bead = 0;
-    while bead < beads {
-        r = draw_bead(
-            pattern,
-            labels,
-            bead,
-            1 + (bead % 2 + first % 2) % 2,
-            least,
-            r,
-        );
-        bead += 1;
+fn draw_bead(pattern: &mut PatternRoom, bead: u16, rule: Rule, mild: bool, random: &mut Random) {
+    let shape = random.draw(8);
+    let states = state_count(shape, random.draw(16) as u16);
+    let finals = Finals::draw(mild, states, random);
+    pattern.set_bead(bead, rule, states, finals);
+    let drawn = NextSets::WAYS[random.draw(4) as usize];
+    let sets = match rule {
+        Rule::ForSome => drawn,
+        Rule::ForAll => NextSets::One,
+    };
+    // A next set for each state and label.
+    for state in 0..states {
+        for label in 0..pattern.label_count() {
+            pattern.set_next(bead, state, label, sets.draw(states, random));
+        }
     }
-    r
-}
-
-// Rule 1 is SOME, 2 is ALL.
-fn draw_bead(
-    pattern: &mut [u16],
-    labels: u16,
-    bead: u16,
-    rule: u16,
-    least: u64,
-    from: Random,
-) -> Random {
-    let shape = from.next();
-    let size = shape.next();
-    let states = state_count(shape.below(8), size.below(16) as u16);
-    let kind = size.next();
-    let set = kind.next();
-    let finals = final_set(kind.below(8) | least, states, set.below(65536) as u16);
-    places::set_bead(pattern, bead, rule, states, finals);
-    let density = set.next();
-    draw_table(
-        pattern,
-        labels,
-        bead,
-        density_of(rule, density.below(4)),
-        density,
-    )
 }
 
 fn state_count(shape: u64, size: u16) -> u16 {
@@ -95,88 +125,4 @@ fn state_count(shape: u64, size: u16) -> u16 {
         2 => 1 + size % 16,
         _ => 2 + size % 3,
     }
-}
-
-// All states below n.
-fn all_below(n: u16) -> u16 {
-    only(n).wrapping_sub(1)
-}
-
-// The set of the one state below n that a number gives.
-fn one_below(n: u16, x: u16) -> u16 {
-    if n == 0 {
-        return 0;
-    }
-    only(x % n)
-}
-
-// Any set of states, one state, none, most states, all but one, all.
-fn final_set(kind: u64, states: u16, x: u16) -> u16 {
-    let all = all_below(states);
-    match kind {
-        0 => x & all,
-        1 => one_below(states, x),
-        2 => 0,
-        3 => (x | x >> 5) & all,
-        4 | 5 => all & (65535 - one_below(states, x)),
-        _ => all,
-    }
-}
-
-// How the next sets of a bead are drawn: 0 to 3 for SOME, 4 for ALL.
-fn density_of(rule: u16, x: u64) -> u64 {
-    if rule == 1 {
-        return x;
-    }
-    4
-}
-
-// A next set for each state and label.
-fn draw_table(pattern: &mut [u16], labels: u16, bead: u16, density: u64, from: Random) -> Random {
-    let states = places::state_count(pattern, bead);
-    let mut r = from;
-    let mut q = 0;
-    while q < states {
-        r = draw_line(pattern, labels, bead, density, q, states, r);
-        q += 1;
-    }
-    r
-}
-
-fn draw_line(
-    pattern: &mut [u16],
-    labels: u16,
-    bead: u16,
-    density: u64,
-    state: u16,
-    states: u16,
-    from: Random,
-) -> Random {
-    let mut r = from;
-    let mut a = 0;
-    while a < labels {
-        r = r.next();
-        let to = next_set(density, states, r.below(65536) as u16);
-        places::set_next(pattern, bead, state, a, to);
-        a += 1;
-    }
-    r
-}
-
-// Of SOME: at most one state, one state, about a quarter of them, about half of them. Of ALL: one state.
-fn next_set(density: u64, states: u16, x: u16) -> u16 {
-    match density {
-        0 => sparse(states, x),
-        2 => x & x >> 3 & all_below(states),
-        3 => x & all_below(states),
-        _ => one_below(states, x),
-    }
-}
-
-// One state, or none for a number that 3 divides.
-fn sparse(states: u16, x: u16) -> u16 {
-    if x % 3 == 0 {
-        return 0;
-    }
-    one_below(states, x)
 }

@@ -1,86 +1,80 @@
-// The report's lines, each written into a buffer from an index on. Each function answers the index
-// behind the line's newline.
+// The report's lines, each put behind what an output has. They are functions and no `Display`, for
+// the reasons in `writing`.
 #![tactic(auto)]
 
-ghost use Rattle.std.specs.Prelude.{◌+◌, ◌-◌, ◌^◌, ◌≤◌, ◌<◌, min, ◌≡◌, ◌++◌, ◌∷◌, [], length};
+ghost use Rattle.std.specs.Prelude.{◌+◌, ◌-◌, ◌^◌, ◌≤◌, ◌<◌, ◌≡◌, ◌++◌, ◌∷◌, [], length};
 ghost use Rattle.numbers.specs.Numbers.{spell};
 ghost use Rattle.sets.specs.Sets.{member};
-ghost use Rattle.writing.specs.Put.{Put};
+ghost use Rattle.writing.specs.Put.{Adds};
 ghost use Rattle.report_lines.specs.Lines.{header_text, pivots_word, row_text, refusal_text};
 
 use answer::Answer;
-use writing::{put_byte, put_bytes, put_ended, put_listed, put_number};
+use writing::Output;
 
-pub fn put_header(out: &mut [u8], at: usize) -> usize
-    requires { at + 23 < 2 ^ 64 }
-    ensures { Put header_text at out.old result out.new }
+#[tactic(auto, using(crate::proofs::LineLaws::kit))]
+pub fn put_header(output: &mut Output)
+    requires { output.old.at + 23 < 2 ^ 64 }
+    ensures { Adds header_text output.old output.new }
 {
-    put_bytes(out, at, b"vertex prefixes pivots\n")
+    output.put_bytes(b"vertex prefixes pivots\n");
 }
 
 // Bytes, a number, and a byte behind it.
-fn put_named(out: &mut [u8], at: usize, name: &[u8], n: u16, end: u8) -> usize
-    requires { at + length name.now + 6 < 2 ^ 64 }
-    ensures put { Put (name.now ++ (spell n ++ (end ∷ []))) at out.old result out.new }
-    ensures upper_bound { result ≤ at + length name.now + 6 }
+#[tactic(auto, using(crate::proofs::LineLaws::kit))]
+fn put_named(output: &mut Output, name: &[u8], n: u16, end: u8)
+    requires { output.old.at + length name.now + 6 < 2 ^ 64 }
+    ensures put { Adds (name.now ++ (spell n ++ (end ∷ []))) output.old output.new }
+    ensures upper_bound { output.new.at ≤ output.old.at + length name.now + 6 }
 {
-    let next = put_bytes(out, at, name);
-    put_ended(out, next, n, end)
+    output.put_bytes(name);
+    output.put_ended(n, end);
 }
 
 // The line of a refusal.
-pub fn put_refusal(out: &mut [u8], at: usize, a: Answer) -> usize
-    requires { at + 36 < 2 ^ 64 }
-    ensures { Put (refusal_text a) at out.old result out.new }
+#[tactic(auto, using(crate::proofs::LineLaws::kit))]
+pub fn put_refusal(output: &mut Output, a: Answer)
+    requires { output.old.at + 36 < 2 ^ 64 }
+    ensures { Adds (refusal_text a) output.old output.new }
 {
-    let next = put_named(out, at, b"refused ", a.number, b' ');
-    let next = put_named(out, next, b"line ", a.line, b' ');
-    put_named(out, next, b"byte ", a.byte, b'\n')
+    put_named(output, b"refused ", a.number, b' ');
+    put_named(output, b"line ", a.line, b' ');
+    put_named(output, b"byte ", a.byte, b'\n');
 }
 
 // The line of a step under a pattern of this many beads, from the step's row in the result buffer.
-pub fn put_row(out: &mut [u8], at: usize, beads: u16, step: u16, row: &[u16]) -> usize
+#[tactic(auto, using(crate::proofs::LineLaws::kit))]
+pub fn put_row(output: &mut Output, beads: u16, step: u16, row: &[u16])
     requires row_len { length row.now ≡ 10 }
-    requires at_bound { at + 67 < 2 ^ 64 }
-    ensures put { Put (row_text beads step row.now) at out.old result out.new }
-    ensures upper_bound { result ≤ at + 67 }
+    requires at_bound { output.old.at + 67 < 2 ^ 64 }
+    ensures put { Adds (row_text beads step row.now) output.old output.new }
+    ensures upper_bound { output.new.at ≤ output.old.at + 67 }
 {
-    let next = put_ended(out, at, step, b' ');
-    let next = put_ended(out, next, row[0], b' ');
-    let next = put_pivots(out, next, beads, row);
-    put_byte(out, next, b'\n')
+    output.put_ended(step, b' ');
+    output.put_ended(row[0], b' ');
+    put_pivots(output, beads, row);
+    output.put_byte(b'\n');
 }
 
-fn put_pivots(out: &mut [u8], at: usize, beads: u16, row: &[u16]) -> usize
+#[tactic(auto, using(crate::proofs::LineLaws::kit))]
+fn put_pivots(output: &mut Output, beads: u16, row: &[u16])
     requires row_len { length row.now ≡ 10 }
-    requires at_bound { at + 54 < 2 ^ 64 }
-    ensures put { Put (pivots_word beads row.now) at out.old result out.new }
-    ensures upper_bound { result ≤ at + 54 }
+    requires at_bound { output.old.at + 54 < 2 ^ 64 }
+    ensures put { Adds (pivots_word beads row.now) output.old output.new }
+    ensures upper_bound { output.new.at ≤ output.old.at + 54 }
 {
     if whole_holds(beads, row[0]) {
-        let end = pivots_end(beads);
-        let next = put_number(out, at, row[1]);
-        return put_listed(out, next, b',', &row[2..end]);
+        let others = usize::from(beads.min(8));
+        output.put_number(row[1]);
+        output.put_listed(b',', &row[2..2 + others]);
+    } else {
+        output.put_byte(b'-');
     }
-    put_byte(out, at, b'-')
 }
 
 // Does the whole pattern, of this many beads, hold where this set of prefixes does?
+#[tactic(auto, using(crate::proofs::LineLaws::kit))]
 fn whole_holds(beads: u16, prefixes: u16) -> bool
     ensures { result ≡ member (beads - 1) prefixes }
 {
-    if beads < 2 {
-        return sets::member(prefixes, 0);
-    }
-    if beads > 16 {
-        return false;
-    }
-    sets::member(prefixes, beads - 1)
-}
-
-// Where the pivots end in a row of ten numbers.
-fn pivots_end(beads: u16) -> usize
-    ensures { result ≡ min (beads + 2) 10 }
-{
-    if beads < 8 { beads as usize + 2 } else { 10 }
+    beads <= 16 && sets::member(prefixes, beads.saturating_sub(1))
 }

@@ -4,9 +4,9 @@ use Prim.Native.Nat.{ℕ, ◌+◌, ◌-◌, ◌*◌, ◌≤◌, ◌<◌}
 use mathlib.Core.Path.{◌≡◌, sym, ap, ap₂, ◌∙◌}
 use mathlib.Core.List.{List, ◌++◌, append_assoc}
 use native.Mathlib.Omega.{arith}
-use lib.ListN.{length, get_or, take, drop, replicate, length-append, length-drop}
-use lib.Seq.{take_at, drop-append-add}
-use lib.Seq.{drop-drop}
+use lib.ListN.{length, get_or, take, drop, replicate}
+use lib.Seq.{take_at, drop_at, drop-drop}
+use borrow.Rule.Slice.PartMut.{put_mid}
 use Rattle.lists.proofs.Tables.{zeros_at}
 use Rattle.rows.specs.Rows.{rows_from, whole_from}
 use Rattle.rows.proofs.RowLaws.{length_rows}
@@ -26,25 +26,16 @@ use Rattle.results.proofs.Rows.{counted, rows_are}
 
 -- ---- the result, from the arrays
 
-pub written_result : (beads n : ℕ) (prefixes pivots l mid last : List ℕ) → n ≤ 1024 → 10240 ≤ length l → mid ≡ rows_from beads prefixes pivots n ++ drop (10 * n) l
-    → last ≡ take (10 * n) mid ++ (replicate (10240 - 10 * n) 0 ++ drop 10240 mid) → last ≡ result_from beads prefixes pivots n l
-written_result beads n prefixes pivots l mid last h k e f =
+pub written_result : (beads n : ℕ) (prefixes pivots l mid : List ℕ) → n ≤ 1024 → 10240 ≤ length l → mid ≡ rows_from beads prefixes pivots n ++ drop (10 * n) l
+    → (zeros : List ℕ) → zeros ≡ replicate (10240 - 10 * n) 0 → put_mid (10 * n) (10240 - 10 * n) mid zeros ≡ result_from beads prefixes pivots n l
+written_result beads n prefixes pivots l mid h k e zeros z =
     let r = length_rows beads prefixes pivots n in
-    let q : 10240 ≡ length (rows_from beads prefixes pivots n) + (10240 - 10 * n) = omega arith in
     let s : 10 * n + (10240 - 10 * n) ≡ 10240 = omega arith in
-    f
-    ∙ ap₂ (λ (x y : List ℕ). x ++ (replicate (10240 - 10 * n) 0 ++ y)) (ap (take (10 * n)) e ∙ take_at (rows_from beads prefixes pivots n) (drop (10 * n) l) (10 * n) r)
-    (ap (drop 10240) e ∙ ap (λ (m : ℕ). drop m (rows_from beads prefixes pivots n ++ drop (10 * n) l)) q
-    ∙ drop-append-add (rows_from beads prefixes pivots n) (drop (10 * n) l) (10240 - 10 * n) ∙ drop-drop (10240 - 10 * n) (10 * n) l ∙ ap (λ (m : ℕ). drop m l) s)
-
-pub rows_length_is : (beads n : ℕ) (prefixes pivots l mid : List ℕ) → n ≤ 1024 → 10240 ≤ length l → mid ≡ rows_from beads prefixes pivots n ++ drop (10 * n) l → 10240 ≤ length mid
-rows_length_is beads n prefixes pivots l mid h k e =
-    let r = length_rows beads prefixes pivots n in
-    let d = length-drop (10 * n) l in
-    let z = ap length e ∙ length-append (rows_from beads prefixes pivots n) (drop (10 * n) l) in
-    omega arith
-
-pub ruleset result_kit = (written_result, rows_length_is)
+    ap₂ (λ (x y : List ℕ). x ++ y) (ap (take (10 * n)) e ∙ take_at (rows_from beads prefixes pivots n) (drop (10 * n) l) (10 * n) r)
+    (ap₂ (λ (x y : List ℕ). x ++ y) z
+    (ap (λ (m : List ℕ). drop (10240 - 10 * n) (drop (10 * n) m)) e
+    ∙ ap (drop (10240 - 10 * n)) (drop_at (rows_from beads prefixes pivots n) (drop (10 * n) l) (10 * n) r)
+    ∙ drop-drop (10240 - 10 * n) (10 * n) l ∙ ap (λ (m : ℕ). drop m l) s))
 
 -- ---- what the tests give
 
@@ -73,9 +64,6 @@ module _ (pattern log : List ℕ) (beads n : ℕ) (s : Sized pattern log beads n
       (rows_are (log_of log) (pattern_of pattern) some (steps_in log) prefixes m few pivots w (steps_in log) (omega arith))
       ∙ sym (append_assoc (rows_up_to (log_of log) (pattern_of pattern) (steps_in log)) (replicate (result_length - row_length * steps_in log) 0) (drop result_length l))
 
-pub sized_tried : (pattern log : List ℕ) (beads n : ℕ) → Sized pattern log beads n → Tried pattern log
-sized_tried pattern log beads n s = s.tried
-
 module _ (pattern log : List ℕ) (t : Tried pattern log) where
   pub sized : (beads n : ℕ) → beads ≡ get_or pattern 1 0 → n ≡ get_or log 0 0 → Sized pattern log beads n
   unfolding pattern_of
@@ -92,15 +80,9 @@ module _ (pattern log : List ℕ) (t : Tried pattern log) where
   pub log_there : 0 < length log
   log_there = let h = (laid (labels_in pattern) log t.log_passes).long in omega arith
 
--- The work buffer is all zeros once it is cleared.
-pub work_cleared : (old mid last : List ℕ) → length mid ≡ length old → last ≡ replicate (length mid) 0 → last ≡ replicate (length old) 0
-work_cleared old mid last n e = e ∙ ap (λ (k : ℕ). replicate k 0) n
-
 pub tried_laid : (pattern log : List ℕ) → Tried pattern log → Laid log
 tried_laid pattern log t = laid (labels_in pattern) log t.log_passes
 
 pub ruleset all_kit = (all_beads, tried_laid)
 
-pub ruleset tried_kit = (sized, pattern_there, log_there, work_cleared)
-
-pub ruleset arrays_kit = (unmarked_zeros, sized_tried, count_judged, result_judged)
+pub ruleset tried_kit = (sized, pattern_there, log_there)

@@ -5,44 +5,26 @@ ghost use Rattle.std.specs.Prelude.{◌≡◌, ◌++◌, ◌≤◌, length, drop
 ghost use Rattle.log_buffer.specs.Meaning.{log_of, steps_in};
 ghost use Rattle.pattern_buffer.specs.Meaning.{pattern_of};
 ghost use Rattle.prefix_phase.specs.Marked.{Tried, Unmarked, Marks};
-ghost use Rattle.log_links.specs.Links.{LastTo};
-ghost use Rattle.hope.specs.Hope.{Hopes};
 ghost use Rattle.walk_places.specs.Walked.{WalkedBack};
 ghost use Rattle.results.specs.Arrays.{result_from, Sized};
 ghost use Rattle.results.specs.Result.{whole_up_to, rows_of};
-ghost use Rattle.rows.specs.Rows.{whole_from};
 
-// Both phases: the sets of prefixes, and the pivots.
+use log_links::Log;
+use prefix_phase::Case;
+use rows::Found;
+use serving::Course;
+
+// Both phases: the sets of prefixes, and the pivots. What they go by is made before them: the hopeful states of each bead, and the last link of
+// each step.
+#[tactic(auto, using(crate::proofs::JudgeLaws::all_kit))]
 fn fill_arrays(
     pattern: &[u16],
     log: &[u16],
-    hopes: &[u16],
-    last: &[u16],
     prefixes: &mut [u16],
     pivots: &mut [u16],
     work: &mut [u16],
 )
-    requires in_bounds { (8 ≤ length hopes.now) × (1024 ≤ length last.now) × (1024 ≤ length prefixes.old) × (length pivots.old ≡ 9216) × (length work.old ≡ 16384) }
-    requires tried { Tried pattern.now log.now }
-    requires hopes { Hopes pattern.now hopes.now }
-    requires last_to { LastTo log.now (steps_in log.now) last.now }
-    requires unmarked { Unmarked prefixes.old }
-    ensures marks { Marks (log_of log.now) (pattern_of pattern.now) (steps_in log.now) prefixes.new }
-    ensures walked_back { WalkedBack (log_of log.now) (pattern_of pattern.now) (steps_in log.now) pivots.new }
-{
-    prefix_phase::mark_prefixes(pattern, log, hopes, last, prefixes, work);
-    walk_phase::walk_back(pattern, log, hopes, last, prefixes, pivots, work);
-}
-
-// The same, with what both phases go by: the hopeful states of each bead, and the last link of each step.
-fn fill_all(
-    pattern: &[u16],
-    log: &[u16],
-    prefixes: &mut [u16],
-    pivots: &mut [u16],
-    work: &mut [u16],
-)
-    requires in_bounds { (1024 ≤ length prefixes.old) × (length pivots.old ≡ 9216) × (length work.old ≡ 16384) }
+    requires in_bounds { (1024 ≤ length prefixes.old) × (9216 ≤ length pivots.old) × (16384 ≤ length work.old) }
     requires tried { Tried pattern.now log.now }
     requires unmarked { Unmarked prefixes.old }
     ensures marks { Marks (log_of log.now) (pattern_of pattern.now) (steps_in log.now) prefixes.new }
@@ -50,30 +32,27 @@ fn fill_all(
 {
     let mut hopes = [0u16; 8];
     let mut last = [0u16; layout::MOST_STEPS];
+    let log = Log::new(log);
     hope::fill_hopes(pattern, &mut hopes);
     log_links::last_links(log, &mut last);
-    fill_arrays(pattern, log, &hopes, &last, prefixes, pivots, work);
+    let course = Course {
+        pattern,
+        log,
+        hopes: &hopes,
+        last: &last,
+    };
+    let case = Case { course };
+    case.mark_prefixes(prefixes, work);
+    walk_phase::walk_back(&case, prefixes, pivots, work);
 }
 
 // The rows of all steps, and zeros in the unused places.
-fn write_result(beads: u16, n: usize, prefixes: &[u16], pivots: &[u16], res: &mut [u16])
-    requires le_beads { (1 ≤ beads) × (beads ≤ 8) × (n ≤ 1024) }
-    requires in_bounds { (10240 ≤ length res.old) × (1024 ≤ length prefixes.now) × (9216 ≤ length pivots.now) }
-    ensures { res.new ≡ result_from beads prefixes.now pivots.now n res.old }
+fn write_result(found: &Found, res: &mut [u16])
+    requires { 10240 ≤ length res.old }
+    ensures { res.new ≡ result_from found.now.beads found.now.prefixes.now found.now.pivots.now found.now.steps res.old }
 {
-    rows::write_rows(res, beads, n, prefixes, pivots);
-    lists::clear(res, layout::ROW_LENGTH * n, layout::RESULT_LENGTH);
-}
-
-// The result, and the number of steps at which the whole pattern holds.
-fn finish(beads: u16, n: usize, prefixes: &[u16], pivots: &[u16], res: &mut [u16]) -> u16
-    requires le_beads { (1 ≤ beads) × (beads ≤ 8) × (n ≤ 1024) }
-    requires in_bounds { (10240 ≤ length res.old) × (1024 ≤ length prefixes.now) × (9216 ≤ length pivots.now) }
-    ensures value { result ≡ whole_from beads prefixes.now n }
-    ensures res_after { res.new ≡ result_from beads prefixes.now pivots.now n res.old }
-{
-    write_result(beads, n, prefixes, pivots, res);
-    rows::count_whole(beads, n, prefixes)
+    found.write_rows(res);
+    res[layout::ROW_LENGTH * found.steps..layout::RESULT_LENGTH].fill(0);
 }
 
 // Judges buffers that passed their tests: their beads and steps are known.
@@ -92,11 +71,19 @@ fn judge_arrays(
 {
     let mut prefixes = [0u16; layout::MOST_STEPS];
     let mut pivots = [0u16; layout::PIVOTS_LENGTH];
-    fill_all(pattern, log, &mut prefixes, &mut pivots, work);
-    finish(beads, n, &prefixes, &pivots, res)
+    fill_arrays(pattern, log, &mut prefixes, &mut pivots, work);
+    let found = Found {
+        beads,
+        steps: n,
+        prefixes: &prefixes,
+        pivots: &pivots,
+    };
+    write_result(&found, res);
+    rows::count_whole(beads, n, &prefixes)
 }
 
 // Judges buffers that passed their tests, and leaves zeros in the work buffer.
+#[tactic(auto, using(crate::proofs::JudgeLaws::tried_kit))]
 pub fn judge_tried(pattern: &[u16], log: &[u16], res: &mut [u16], work: &mut [u16]) -> u16
     requires tried { Tried pattern.now log.now }
     requires in_bounds { (10240 ≤ length res.old) × (length work.old ≡ 16384) }
@@ -105,8 +92,8 @@ pub fn judge_tried(pattern: &[u16], log: &[u16], res: &mut [u16], work: &mut [u1
     ensures work_after { work.new ≡ replicate (length work.old) 0 }
 {
     let beads = pattern[1];
-    let n = lists::wide(log[0]);
+    let n = usize::from(log[0]);
     let count = judge_arrays(pattern, log, beads, n, res, work);
-    lists::clear_all(work);
+    work.fill(0);
     count
 }

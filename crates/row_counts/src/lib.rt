@@ -1,116 +1,63 @@
 // The rows of a log by the other judge, counted by what they show.
 #![tactic(auto)]
 
-use places::has;
-use tallies::{add, add_if, differing, row_place};
-use trial::get;
+use other_judge::{Row, Settled};
+use places::{LogRoom, PatternRoom, has};
+use std::num::Wrapping;
 
-// Where each count stands. Those of a number k, of beads or of a prefix, stand k places on, from 1.
-const PREFIXES: usize = 15;
-
-const WHOLE: usize = 23;
-
-const FRONT: usize = 32;
-
-const TWICE: usize = 33;
-
-const START: usize = 34;
-
-const FRONT_CHOSEN: usize = 39;
-
-// The rows by the other judge, and at how many steps the whole pattern holds.
-pub fn judge_apart(
-    pattern: &[u16],
-    log: &[u16],
-    n: u16,
-    beads: u16,
-    res: &[u16],
-    rows: &mut [u16],
-    counts: &mut [u64],
-) -> u16 {
-    let mut on = [0u16; 16384];
-    let mut begun = [0u16; 128];
-    other_judge::fill_pairs(pattern, log, &mut on);
-    other_judge::fill_prefixes(n, &on, &mut begun);
-    judge_rows(n, beads, &on, &begun, res, rows, counts)
+// The rows of a log, those of no step all 0, and at how many steps the whole pattern holds.
+#[derive(Drop)]
+pub struct Rows {
+    pub rows: [Row; 1024],
+    pub whole: u16,
 }
 
-fn judge_rows(
-    n: u16,
-    beads: u16,
-    on: &[u16],
-    begun: &[u16],
-    res: &[u16],
-    rows: &mut [u16],
-    counts: &mut [u64],
-) -> u16 {
-    let mut whole = 0u16;
-    let mut v = 0;
-    while v < n {
-        other_judge::fill_row(beads, on, begun, v, rows, row_place(v));
-        count_bits(v, get(rows, row_place(v) as usize), counts);
-        whole = whole.wrapping_add(count_whole(beads, on, begun, v, res, rows, counts));
-        v += 1;
-    }
-    whole
+// How many rows have each prefix and are whole necklaces of each length, from 1 bead on; in how many the front gives other pivots, in
+// how many of these the library has them, in how many a pivot stands twice; and how many of step 0 have a prefix.
+#[derive(Default, Drop)]
+pub struct RowCounts {
+    pub prefixes: [Wrapping<u64>; 8],
+    pub whole: [Wrapping<u64>; 8],
+    pub front: Wrapping<u64>,
+    pub front_chosen: Wrapping<u64>,
+    pub twice: Wrapping<u64>,
+    pub start: Wrapping<u64>,
 }
 
-// Which prefixes hold, and whether one does at step 0.
-fn count_bits(v: u16, prefixes: u16, counts: &mut [u64]) {
-    add_if(counts, START, (v == 0) & (prefixes != 0));
-    let mut k = 0;
-    while k < 8 {
-        add_if(counts, PREFIXES + 1 + k as usize, has(prefixes, k));
-        k += 1;
-    }
-}
-
-// 1 if the whole pattern holds, else 0.
-fn count_whole(
-    beads: u16,
-    on: &[u16],
-    begun: &[u16],
-    v: u16,
-    res: &[u16],
-    rows: &[u16],
-    counts: &mut [u64],
-) -> u16 {
-    if has(get(begun, v as usize), beads) {
-        add(counts, WHOLE + beads as usize, 1);
-        add_if(counts, TWICE, stands_twice(beads, rows, row_place(v)));
-        count_front(beads, on, begun, v, res, rows, counts);
-        return 1;
-    }
-    0
-}
-
-// Does a pivot of the row stand twice? Pivots do not fall, so it then stands beside itself.
-fn stands_twice(beads: u16, rows: &[u16], at: u16) -> bool {
-    let mut j = 0;
-    while j < beads {
-        let i = at as usize + 1 + j as usize;
-        if get(rows, i) == get(rows, i + 1) {
-            return true;
+impl RowCounts {
+    // The rows by the other judge, counted beside the library's.
+    pub fn judge_apart(&mut self, pattern: &PatternRoom, log: &LogRoom, chosen: &[Row]) -> Rows {
+        let settled = Settled::new(pattern, log);
+        let mut rows = [[0; 10]; 1024];
+        let mut whole = 0u16;
+        for ((v, row), chosen) in (0..log.step_count()).zip(rows.iter_mut()).zip(chosen) {
+            *row = settled.row(v);
+            self.count_prefixes(v, row[0]);
+            if settled.holds(v) {
+                whole = whole.wrapping_add(1);
+                self.count_whole(&settled, v, row, chosen);
+            }
         }
-        j += 1;
+        Rows { rows, whole }
     }
-    false
-}
 
-// Would a search from the front find other pivots, and are those in the judge's row?
-fn count_front(
-    beads: u16,
-    on: &[u16],
-    begun: &[u16],
-    v: u16,
-    res: &[u16],
-    rows: &[u16],
-    counts: &mut [u64],
-) {
-    let mut front = [0u16; 10];
-    other_judge::fill_front(beads, on, begun, v, &mut front);
-    let other = differing(rows, row_place(v), &front, 0, 10) != 0;
-    let chosen = differing(res, row_place(v), &front, 0, 10) == 0;
-    add_if(counts, FRONT, other);
-    add_if(counts, FRONT_CHOSEN, other & chosen);
+    fn count_prefixes(&mut self, v: u16, prefixes: u16) {
+        self.start += u64::from(v == 0 && prefixes != 0);
+        for (k, count) in (0..8).zip(self.prefixes.iter_mut()) {
+            *count += u64::from(has(prefixes, k));
+        }
+    }
+
+    fn count_whole(&mut self, settled: &Settled, v: u16, row: &Row, chosen: &Row) {
+        let beads = usize::from(settled.beads);
+        if let Some(count) = self.whole.get_mut(beads.wrapping_sub(1)) {
+            *count += 1;
+        }
+        // Pivots do not fall: one that stands twice stands beside itself.
+        let mut pairs = row[1..].iter().zip(&row[2..]).take(beads);
+        self.twice += u64::from(pairs.any(|(pivot, next)| pivot == next));
+        let front = settled.front_row(v);
+        self.front += u64::from(front != *row);
+        self.front_chosen += u64::from(front != *row && front == *chosen);
+    }
 }

@@ -3,7 +3,7 @@
 use mathlib.Core.Path.{◌≡◌, refl, sym, ap, ◌∙◌}
 use mathlib.Core.Bool.{Bool, true, false, not, cond, ◌&&◌}
 use mathlib.Core.List.{List, []}
-use mathlib.Core.Option.{none, some}
+use Rattle.std.specs.Prelude.{Some, None, unwrap_or}
 use Prim.Native.Nat.{ℕ, ◌^◌, ◌≤◌, ◌<◌}
 use native.Mathlib.Omega.{arith}
 use borrow.Author.Tests.{lt-ltb, le-leb, lt-leb, leb-true}
@@ -11,15 +11,17 @@ use lib.Dec.{leb}
 use lib.ListN.{length, get_or}
 use lib.Pow.{pow_mono}
 use Rattle.sets.specs.Sets.{within, single}
-use Rattle.numbers.specs.Numbers.{plain, digits, value_from, decimal, largest, or_zero, value_of}
-use Rattle.line_places.proofs.PlaceLaws.{where_none}
+use Rattle.numbers.specs.Numbers.{plain, digits, value_from, decimal, largest, value_of}
+use Rattle.lists.proofs.LeftmostLaws.{leftmost_none}
+use Rattle.line_places.specs.Place.{place_at}
+use Rattle.line_places.proofs.PlaceLaws.{place_lacking}
 use Rattle.pattern_places.specs.Place.{stray_set, straying_at, ambiguous_set}
 
 -- ---- a next set
 
-pub stray_front : (n : ℕ) (fs : List (List ℕ)) (i : ℕ) → i < 4 → false ≡ stray_set n fs i
+pub stray_front : (n : ℕ) (fs : List (List ℕ)) (i : ℕ) → i < 4 → leb 4 i ≡ stray_set n fs i
 unfolding stray_set
-stray_front n fs i h = sym (rw (lt-leb 4 i h) refl)
+stray_front n fs i h = lt-leb 4 i h ∙ sym (rw (lt-leb 4 i h) refl)
 
 pub stray_set_lem : (n : ℕ) (fs : List (List ℕ)) (i : ℕ) (v : ℕ) (t : Bool) → 4 ≤ i → v ≡ value_of (get_or fs i []) → t ≡ within n v
     → not t ≡ stray_set n fs i
@@ -28,9 +30,9 @@ stray_set_lem n fs i v t h g e = ap not (e ∙ ap (within n) g) ∙ sym (rw (le-
 
 pub ruleset stray_kit = (stray_front, stray_set_lem)
 
-pub ambiguous_front : (fs : List (List ℕ)) (i : ℕ) → i < 4 → false ≡ ambiguous_set fs i
+pub ambiguous_front : (fs : List (List ℕ)) (i : ℕ) → i < 4 → leb 4 i ≡ ambiguous_set fs i
 unfolding ambiguous_set
-ambiguous_front fs i h = sym (rw (lt-leb 4 i h) refl)
+ambiguous_front fs i h = lt-leb 4 i h ∙ sym (rw (lt-leb 4 i h) refl)
 
 pub ambiguous_set_lem : (fs : List (List ℕ)) (i : ℕ) (v : ℕ) (t : Bool) → 4 ≤ i → v ≡ value_of (get_or fs i []) → t ≡ single 16 v
     → not t ≡ ambiguous_set fs i
@@ -50,13 +52,13 @@ value_most bs = go (plain bs && digits bs && leb (value_from 0 bs) largest) refl
     last false true e = refl
     last false false e = e
 
-    go : (t : Bool) → (plain bs && digits bs && leb (value_from 0 bs) largest) ≡ t → or_zero (cond t (some (value_from 0 bs)) none) ≤ 65535
+    go : (t : Bool) → (plain bs && digits bs && leb (value_from 0 bs) largest) ≡ t → unwrap_or (cond t (Some (value_from 0 bs)) None) 0 ≤ 65535
     go true e = leb-true (value_from 0 bs) largest (last (plain bs && digits bs) (leb (value_from 0 bs) largest) e)
     go false e = omega arith
 
 pub none_strays : (n : ℕ) (fs : List (List ℕ)) → 15 < n → 0 ≡ straying_at n fs
 unfolding stray_set
-none_strays n fs h = where_none (stray_set n fs) fs (length fs) (record { none = λ j k. inside (leb 4 j) j }) (length fs) refl (omega arith) (omega arith)
+none_strays n fs h = sym (ap (place_at fs) (sym (leftmost_none (stray_set n fs) (length fs) (record { none = λ j k. inside (leb 4 j) j }) (length fs) (omega arith) (omega arith))) ∙ place_lacking fs (length fs) (omega arith))
   where
     big : 2 ^ 16 ≤ 2 ^ n
     big = pow_mono {i = 16} {j = n} (omega arith)

@@ -1,11 +1,11 @@
 -- 13, as the code finds it: the bead, else the state, else final.
 -- Assumes nothing.
-use mathlib.Core.Path.{◌≡◌, refl, sym, ap, ◌∙◌}
+use mathlib.Core.Path.{◌≡◌, refl, sym, ◌∙◌}
 use mathlib.Core.Bool.{Bool, true, false, not, cond, ◌||◌}
 use mathlib.Core.List.{List, [], ◌∷◌}
-use Prim.Native.Nat.{ℕ, ◌+◌, ◌-◌, ◌≤◌, ◌<◌}
+use Prim.Native.Nat.{ℕ, ◌+◌, ◌≤◌, ◌<◌}
 use native.Mathlib.Omega.{arith}
-use borrow.Author.Tests.{lt-ltb, le-ltb, eq-eqb, ne_eqb, eqb-true, eqb-false, not-true, not-false}
+use borrow.Author.Tests.{lt-ltb, le-ltb, eq-eqb, ne_eqb}
 use lib.Dec.{eqb, ltb}
 use lib.ListN.{get_or}
 use Rattle.numbers.specs.Numbers.{value_of}
@@ -13,32 +13,20 @@ use Rattle.line_places.specs.Place.{place_at}
 use Rattle.pattern_row.specs.Fields.{row_of}
 use Rattle.pattern_places.specs.Place.{bead_wrong, state_wrong, disordered_at}
 
--- Two tests of equality agree.
-same_test : (a b c d : ℕ) → (a ≡ b → c ≡ d) → (c ≡ d → a ≡ b) → eqb a b ≡ eqb c d
-same_test a b c d f g = go (eqb a b) refl
-  where
-    go : (t : Bool) → eqb a b ≡ t → t ≡ eqb c d
-    go true e = sym (eq-eqb c d (f (eqb-true a b e)))
-    go false e = sym (ne_eqb c d (λ k. eqb-false a b e (g k)))
-
 -- ---- a bead after a bead
 
 module _ (b l : ℕ) where
-  pub bead_over : 8 < b → true ≡ (ltb 8 b || not (eqb b l || eqb b (l + 1)))
-  bead_over h = sym (rw (lt-ltb 8 b h) refl)
+  pub bead_over : 8 < b → ltb 8 b ≡ (ltb 8 b || not (eqb b l || eqb b (l + 1)))
+  bead_over h = rw (lt-ltb 8 b h) refl
 
   module _ (h : b ≤ 8) where
     pub bead_again : b ≡ l → false ≡ (ltb 8 b || not (eqb b l || eqb b (l + 1)))
     bead_again e = sym (rw (le-ltb 8 b h, eq-eqb b l e) refl)
 
-    pub bead_zero : (b ≡ l → ⊥) → b ≡ 0 → true ≡ (ltb 8 b || not (eqb b l || eqb b (l + 1)))
-    bead_zero n e = sym (rw (le-ltb 8 b h, ne_eqb b l n, ne_eqb b (l + 1) (λ k. absurd (omega arith))) refl)
+    pub bead_other : (b ≡ l → ⊥) → (x y : ℕ) → x ≡ b → y ≡ l → not (eqb x (y + 1)) ≡ (ltb 8 b || not (eqb b l || eqb b (l + 1)))
+    bead_other n x y p q = rw (p, q) (sym (rw (le-ltb 8 b h, ne_eqb b l n) refl))
 
-    pub bead_other : (b ≡ l → ⊥) → (b ≡ 0 → ⊥) → not (eqb (b - 1) l) ≡ (ltb 8 b || not (eqb b l || eqb b (l + 1)))
-    bead_other n z =
-        ap not (same_test (b - 1) l b (l + 1) (λ e. omega arith) (λ e. omega arith)) ∙ sym (rw (le-ltb 8 b h, ne_eqb b l n) refl)
-
-pub ruleset bead_kit = (bead_over, bead_again, bead_zero, bead_other)
+pub ruleset bead_kit = (bead_over, bead_again, bead_other)
 
 -- ---- a state after a state, in the same bead or not
 
@@ -47,17 +35,13 @@ module _ (a : Bool) (s l : ℕ) where
   state_over h = sym (rw (le-ltb s 16 (omega arith)) refl)
 
   module _ (h : s ≤ 15) where
-    pub state_new : not a ≡ true → not (eqb s 0) ≡ (not (ltb s 16) || cond a (not (eqb s (l + 1))) (not (eqb s 0)))
-    state_new e = sym (rw (lt-ltb s 16 (omega arith), not-true a e) refl)
+    pub state_new : a ≡ false → not (eqb s 0) ≡ (not (ltb s 16) || cond a (not (eqb s (l + 1))) (not (eqb s 0)))
+    state_new e = sym (rw (lt-ltb s 16 (omega arith), e) refl)
 
-    pub state_zero : not a ≡ false → s ≡ 0 → true ≡ (not (ltb s 16) || cond a (not (eqb s (l + 1))) (not (eqb s 0)))
-    state_zero e z = sym (rw (lt-ltb s 16 (omega arith), not-false a e, ne_eqb s (l + 1) (λ k. absurd (omega arith))) refl)
+    pub state_other : a ≡ true → (x y : ℕ) → x ≡ s → y ≡ l → not (eqb x (y + 1)) ≡ (not (ltb s 16) || cond a (not (eqb s (l + 1))) (not (eqb s 0)))
+    state_other e x y p q = rw (p, q) (sym (rw (lt-ltb s 16 (omega arith), e) refl))
 
-    pub state_other : not a ≡ false → (s ≡ 0 → ⊥) → not (eqb (s - 1) l) ≡ (not (ltb s 16) || cond a (not (eqb s (l + 1))) (not (eqb s 0)))
-    state_other e z =
-        ap not (same_test (s - 1) l s (l + 1) (λ k. omega arith) (λ k. omega arith)) ∙ sym (rw (lt-ltb s 16 (omega arith), not-false a e) refl)
-
-pub ruleset state_kit = (state_over, state_new, state_zero, state_other)
+pub ruleset state_kit = (state_over, state_new, state_other)
 
 -- ---- the first line below the header
 

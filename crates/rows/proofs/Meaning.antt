@@ -1,14 +1,14 @@
 -- The rows put together from the judge's arrays are the rows of the theory.
 -- Assumes nothing.
-use Prim.Native.Nat.{ℕ, zero, suc, ◌+◌, ◌-◌, ◌*◌, ◌≤◌, ◌<◌}
-use mathlib.Core.Path.{◌≡◌, refl, sym, ap, ap₂, ◌∙◌, subst}
-use mathlib.Core.Bool.{Bool, true, false, cond, ◌&&◌}
-use mathlib.Core.List.{List, [], ◌∷◌, ◌++◌}
+use Prim.Native.Nat.{ℕ, zero, suc, ◌+◌, ◌-◌, ◌≤◌, ◌<◌}
+use mathlib.Core.Path.{◌≡◌, refl, sym, ap, ◌∙◌}
+use mathlib.Core.Bool.{Bool, true, false}
+use mathlib.Core.List.{List, ◌++◌}
 use native.Mathlib.Decide.{dec_lt}
 use native.Mathlib.Omega.{arith}
 use borrow.Author.Tests.{le-leb, lt-leb}
-use lib.Dec.{T, leb}
-use lib.ListN.{length, get_or, drop, replicate, get_or-append, length-append}
+use lib.Dec.{T}
+use lib.ListN.{length, get_or, drop, replicate, get_or-append}
 use lib.Seq.{get_or-drop, get_or-append-add}
 use Rattle.lists.proofs.Tables.{table_is, zeros_at}
 use Rattle.sets.specs.Sets.{member}
@@ -17,7 +17,7 @@ use Rattle.necklace.specs.Dag.{Dag}
 use Rattle.necklace.specs.Necklace.{Pattern}
 use Rattle.necklace.specs.Compute.{holds?, pivots, prefixes, row}
 use Rattle.necklace.proofs.RowMeaning.{length-row, row_first, row_pivots, row_fails, pivots_length, prefixes_member}
-use Rattle.rows.specs.Rows.{pivot_at, pivot_or, row_place, row_from, rows_from, whole_from}
+use Rattle.rows.specs.Rows.{pivot_at, pivot_or, row_place, row_from}
 
 -- What the arrays hold of the vertices below n: their sets of prefixes, and the pivots of those at which the whole pattern holds.
 pub record Ready (G : Dag) (P : Pattern) (n : ℕ) (sets places : List ℕ) : Type 0 where

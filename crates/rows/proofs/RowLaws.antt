@@ -2,33 +2,19 @@
 -- Assumes nothing.
 use Prim.Native.Nat.{ℕ, zero, suc, ◌+◌, ◌-◌, ◌*◌, ◌≤◌, ◌<◌}
 use mathlib.Core.Path.{◌≡◌, refl, sym, ap, ap₂, ◌∙◌}
-use mathlib.Core.Bool.{Bool, true, false, cond, ◌&&◌}
+use mathlib.Core.Bool.{Bool, true, false, cond}
 use mathlib.Core.List.{List, [], ◌∷◌, ◌++◌, append_assoc}
 use native.Mathlib.Numerals.{add-one}
 use native.Mathlib.Omega.{arith}
-use borrow.Author.Tests.{le-leb, lt-leb}
 use borrow.Rule.Slice.PartMut.{put_mid}
-use lib.Dec.{leb}
 use lib.ListN.{length, get_or, take, drop, set, length-append, length-drop}
-use lib.Seq.{drop-cons, take_at, drop_at, drop-drop}
+use lib.Seq.{take_at, drop_at, drop-drop}
+use Rattle.std.specs.List.{count_by}
+use Rattle.std.proofs.lemmas.List.Sums.{count_by_more_yes, count_by_more_no}
 use Rattle.lists.specs.Tables.{table}
 use Rattle.lists.proofs.Tables.{length-table, part, part_more, part_all}
 use Rattle.sets.specs.Sets.{member}
-use Rattle.rows.specs.Rows.{pivot_at, pivot_or, row_place, row_from, rows_from, whole_from}
-
--- ---- one number
-
-module _ (beads k v : ℕ) (pivots : List ℕ) (whole : Bool) where
-  pub none_whole : whole ≡ false → 0 ≡ pivot_or beads whole k v pivots
-  none_whole e = rw e
-
-  pub pivot_shown : whole ≡ true → k ≤ beads → get_or pivots (1024 * k + v) 0 ≡ pivot_or beads whole k v pivots
-  pivot_shown e h = rw (e, le-leb k beads h)
-
-  pub past_last : whole ≡ true → beads < k → 0 ≡ pivot_or beads whole k v pivots
-  past_last e h = rw (e, lt-leb k beads h)
-
-pub ruleset number_kit = (none_whole, pivot_shown, past_last)
+use Rattle.rows.specs.Rows.{pivot_or, row_place, row_from, rows_from, whole_from}
 
 -- ---- one row
 
@@ -40,7 +26,7 @@ module _ (beads v prefixes : ℕ) (pivots : List ℕ) where
   pub row_part : ℕ → List ℕ → List ℕ
   row_part j l = part places j l
 
-  pub row_start : (l : List ℕ) → length l ≡ 10 → set l 0 prefixes ≡ row_part (0 + 1) (set l 0 prefixes)
+  pub row_start : (l : List ℕ) → length l ≡ 10 → set l 0 prefixes ≡ row_part 1 l
   unfolding row_part table
   row_start [] h = absurd (omega arith)
   row_start (x ∷ xs) h = refl
@@ -101,34 +87,23 @@ module _ (beads : ℕ) (prefixes pivots : List ℕ) where
       let d = length-drop (10 * v) l in
       omega arith
 
-  pub put_length : (n v : ℕ) (l room last : List ℕ) → v < n → 10 * n ≤ length l → room ≡ rows_from beads prefixes pivots v ++ drop (10 * v) l
-      → last ≡ row_from beads v (get_or prefixes v 0) pivots → length (put_mid (10 * v) (10 * v + 10 - 10 * v) room last) ≡ length l
-  put_length n v l room last h k e p =
-      let r = length_rows (v + 1) in
-      let d = length-drop (10 * (v + 1)) l in
-      ap length (row_put v l room last e p) ∙ length-append (rows_from beads prefixes pivots (v + 1)) (drop (10 * (v + 1)) l) ∙ omega arith
-
   pub rows_end : (n v : ℕ) (l room : List ℕ) → v ≤ n → n ≤ v → room ≡ rows_from beads prefixes pivots v ++ drop (10 * v) l
       → room ≡ rows_from beads prefixes pivots n ++ drop (10 * n) l
   rows_end n v l room a b e = let p : v ≡ n = omega arith in rw p at e
 
-  -- the count
-  pub count_none : 0 ≡ whole_from beads prefixes 0
-  unfolding whole_from
-  count_none = refl
+pub ruleset rows_kit = (rows_none, row_put, row_inside, rows_end)
 
-  module _ (v c : ℕ) (whole : Bool) (w : whole ≡ member (beads - 1) (get_or prefixes v 0)) (inv : c ≡ whole_from beads prefixes v) where
-    pub count_yes : whole ≡ true → c + 1 ≡ whole_from beads prefixes (v + 1)
-    unfolding whole_from
-    count_yes e = rw (add-one v, sym w ∙ e, inv)
+-- ---- the count
 
-    pub count_no : whole ≡ false → c ≡ whole_from beads prefixes (v + 1)
-    unfolding whole_from
-    count_no e = rw (add-one v, sym w ∙ e, inv) (omega arith)
+abbrev whole : ℕ → ℕ → Bool
+whole beads set = member (beads - 1) set
 
-  pub count_end : (n v c : ℕ) → v ≤ n → n ≤ v → c ≡ whole_from beads prefixes v → c ≡ whole_from beads prefixes n
-  count_end n v c a b e = let p : v ≡ n = omega arith in rw p at e
-
-pub ruleset rows_kit = (rows_none, row_put, row_inside, put_length, rows_end)
-
-pub ruleset count_kit = (count_none, count_yes, count_no, count_end)
+pub counted : (beads : ℕ) (prefixes : List ℕ) (n : ℕ) → n ≤ length prefixes → count_by (whole beads) (take n prefixes) ≡ whole_from beads prefixes n
+unfolding whole_from
+counted beads prefixes zero h = refl
+counted beads prefixes (suc n) h = go (whole beads (get_or prefixes n 0)) refl (counted beads prefixes n (omega arith))
+  where
+    go : (b : Bool) → whole beads (get_or prefixes n 0) ≡ b → count_by (whole beads) (take n prefixes) ≡ whole_from beads prefixes n
+        → count_by (whole beads) (take (suc n) prefixes) ≡ whole_from beads prefixes n + cond b 1 0
+    go true e i = rw (add-one n) at (count_by_more_yes (whole beads) prefixes n 0 h e) ∙ ap (λ (k : ℕ). k + 1) i
+    go false e i = rw (add-one n) at (count_by_more_no (whole beads) prefixes n 0 h e) ∙ i ∙ omega arith

@@ -1,7 +1,7 @@
 // Rows of the result, written one after the other.
 #![tactic(auto)]
 
-ghost use Rattle.std.specs.Prelude.{◌≡◌, ◌++◌, ◌-◌, ◌*◌, ◌≤◌, ◌<◌, length, drop};
+ghost use Rattle.std.specs.Prelude.{◌≡◌, ◌++◌, ◌-◌, ◌*◌, ◌≤◌, ◌<◌, length, drop, get_or};
 ghost use Rattle.rows.specs.Rows.{pivot_or, row_from, rows_from, whole_from};
 ghost use Rattle.sets.specs.Sets.{member};
 
@@ -13,46 +13,55 @@ pub fn is_whole(beads: u16, prefixes: u16) -> bool
     sets::member(prefixes, beads - 1)
 }
 
-// The number of a row at its place k + 1: a pivot, or 0.
-fn pivot_or_zero(beads: usize, whole: bool, k: usize, step: usize, pivots: &[u16]) -> u16
-    requires { (k < 9) × (step < 1024) × (9216 ≤ length pivots.now) }
-    ensures { result ≡ pivot_or beads whole k step pivots.now }
-{
-    if whole {
-        if k <= beads {
-            return pivots[layout::MOST_STEPS * k + step];
+// What the two phases found: for each step the set of the prefixes that hold there, and the places of the pivots, 1,024 a bead.
+#[derive(Clone, Copy)]
+pub struct Found<'a> {
+    pub beads: u16,
+    pub steps: usize,
+    pub prefixes: &'a [u16],
+    pub pivots: &'a [u16],
+    ghost beads_bound: { (1 ≤ beads) × (beads ≤ 8) },
+    ghost steps_bound: { steps ≤ 1024 },
+    ghost long: { (1024 ≤ length prefixes.now) × (9216 ≤ length pivots.now) },
+}
+
+impl<'a> Found<'a> {
+    // The number of a row at its place k + 1: a pivot, or 0.
+    fn pivot_or_zero(&self, whole: bool, k: usize, step: usize) -> u16
+        requires { (k < 9) × (step < 1024) }
+        ensures { result ≡ pivot_or self.now.beads whole k step self.now.pivots.now }
+    {
+        if whole && k <= usize::from(self.beads) {
+            self.pivots[layout::MOST_STEPS * k + step]
+        } else {
+            0
         }
-        return 0;
     }
-    0
-}
 
-// Writes the row of a step into the ten numbers that are lent.
-fn write_row(row: &mut [u16], beads: u16, step: usize, prefixes: u16, pivots: &[u16])
-    requires { (length row.old ≡ 10) × (1 ≤ beads) × (beads ≤ 8) × (step < 1024) × (9216 ≤ length pivots.now) }
-    ensures { row.new ≡ row_from beads step prefixes pivots.now }
-{
-    let whole = is_whole(beads, prefixes);
-    row[0] = prefixes;
-    let mut k = 0;
-    while k < 9 {
-        row[k + 1] = pivot_or_zero(beads as usize, whole, k, step, pivots);
-        k += 1;
+    // Writes the row of a step into the ten numbers that are lent.
+    #[tactic(auto, using(crate::proofs::RowLaws::row_kit))]
+    fn write_row(&self, row: &mut [u16], step: usize)
+        requires { (length row.old ≡ 10) × (step < 1024) }
+        ensures { row.new ≡ row_from self.now.beads step (get_or self.now.prefixes.now step 0) self.now.pivots.now }
+    {
+        let prefixes = self.prefixes[step];
+        let whole = is_whole(self.beads, prefixes);
+        row[0] = prefixes;
+        for k in 0..9 {
+            row[k + 1] = self.pivot_or_zero(whole, k, step);
+        }
     }
-}
 
-// Writes the rows of the steps below n.
-pub fn write_rows(res: &mut [u16], beads: u16, n: usize, prefixes: &[u16], pivots: &[u16])
-    requires le_beads { (1 ≤ beads) × (beads ≤ 8) × (n ≤ 1024) }
-    requires n_in_bounds { (10 * n ≤ length res.old) × (1024 ≤ length prefixes.now) × (9216 ≤ length pivots.now) }
-    ensures { res.new ≡ rows_from beads prefixes.now pivots.now n ++ drop (10 * n) res.old }
-{
-    let mut v: usize = 0;
-    while v < n {
-        let from = layout::ROW_LENGTH * v;
-        let to = from + layout::ROW_LENGTH;
-        write_row(&mut res[from..to], beads, v, prefixes[v], pivots);
-        v += 1;
+    // Writes the rows of all steps.
+    #[tactic(auto, using(crate::proofs::RowLaws::rows_kit))]
+    pub fn write_rows(&self, res: &mut [u16])
+        requires { 10 * self.now.steps ≤ length res.old }
+        ensures { res.new ≡ rows_from self.now.beads self.now.prefixes.now self.now.pivots.now self.now.steps ++ drop (10 * self.now.steps) res.old }
+    {
+        for step in 0..self.steps {
+            let from = layout::ROW_LENGTH * step;
+            self.write_row(&mut res[from..from + layout::ROW_LENGTH], step);
+        }
     }
 }
 
@@ -61,14 +70,8 @@ pub fn count_whole(beads: u16, n: usize, prefixes: &[u16]) -> u16
     requires { (1 ≤ beads) × (beads ≤ 8) × (n ≤ 1024) × (1024 ≤ length prefixes.now) }
     ensures { result ≡ whole_from beads prefixes.now n }
 {
-    let mut v: usize = 0;
-    let mut count: u16 = 0;
-    while v < n {
-        let whole = is_whole(beads, prefixes[v]);
-        v += 1;
-        if whole {
-            count += 1;
-        }
-    }
-    count
+    prefixes[..n]
+        .iter()
+        .filter(|set| is_whole(beads, **set))
+        .count() as u16
 }

@@ -14,7 +14,7 @@ pub fn runin_read_pattern(text: &[u8], pattern: &mut [u16]) -> u64
     ensures value { result ≡ code_of (pattern_answer text.now pattern.old) }
     ensures pattern_after { pattern.new ≡ pattern_after text.now pattern.old }
 {
-    answer::code(pattern::read_pattern(text, pattern))
+    u64::from(pattern::read_pattern(text, pattern))
 }
 
 // The log reader as C calls it.
@@ -22,7 +22,7 @@ pub fn runin_read_log(text: &[u8], labels: u16, log: &mut [u16]) -> u64
     ensures value { result ≡ code_of (log_answer text.now labels log.old) }
     ensures log_after { log.new ≡ log_after text.now labels log.old }
 {
-    answer::code(log_reader::read_log(text, labels, log))
+    u64::from(log_reader::read_log(text, labels, log))
 }
 
 // The judge as C calls it.
@@ -31,7 +31,7 @@ pub fn runin_judge(pattern: &[u16], log: &[u16], res: &mut [u16], work: &mut [u1
     ensures res_after { res.new ≡ result_after pattern.now log.now res.old work.old }
     ensures work_after { work.new ≡ work_after pattern.now log.now res.old work.old }
 {
-    answer::code(judging::judge(pattern, log, res, work))
+    u64::from(judging::judge(pattern, log, res, work))
 }
 
 // The pattern writer as C calls it.
@@ -39,7 +39,7 @@ pub fn runin_write_pattern(pattern: &[u16], header: &[u8], text: &mut [u8]) -> u
     ensures value { result ≡ code_of (write_pattern_answer pattern.now header.now text.old) }
     ensures text_after { text.new ≡ pattern_text_after pattern.now header.now text.old }
 {
-    answer::code(pattern_writer::write_pattern(pattern, header, text))
+    u64::from(pattern_writer::write_pattern(pattern, header, text))
 }
 
 // The log writer as C calls it.
@@ -47,5 +47,5 @@ pub fn runin_write_log(log: &[u16], labels: u16, text: &mut [u8]) -> u64
     ensures value { result ≡ code_of (write_log_answer log.now labels text.old) }
     ensures text_after { text.new ≡ log_text_after log.now labels text.old }
 {
-    answer::code(log_writer::write_log(log, labels, text))
+    u64::from(log_writer::write_log(log, labels, text))
 }

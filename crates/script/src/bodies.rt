@@ -1,23 +1,33 @@
-// The body of a repetition.
-use crate::items::{Item, read_item};
-use crate::repeats::advance;
-use trial::{append_byte, append_number};
+// The bodies of repetitions.
+use crate::items::{Item, Repeat, read_item};
+use std::io;
+use std::io::Write;
 
-// Appends the body at this index.
-pub fn put_body(body: &[u8], index: u64, out: &mut [u8], from: usize) -> usize {
-    let mut n = from;
-    let mut at = 0;
-    while at < body.len() {
-        let item = read_item(&body[at..], index);
-        n = put_item(item, out, n);
-        at = advance(at, item.width, body.len());
+// Appends the body for each index, until there are `most` bytes.
+pub fn put_repeat(text: &mut Vec<u8>, repeat: Repeat<'_>, most: usize) -> io::Result<()> {
+    for index in 0..repeat.times {
+        if text.len() >= most {
+            break;
+        }
+        put_body(text, repeat.body, index)?;
     }
-    n
+    Ok(())
 }
 
-fn put_item(item: Item, out: &mut [u8], n: usize) -> usize {
-    if item.is_number {
-        return append_number(out, n, item.value);
+// Appends the body at this index.
+fn put_body(text: &mut Vec<u8>, body: &[u8], index: u64) -> io::Result<()> {
+    let mut rest = body;
+    while let Some((item, after)) = read_item(rest) {
+        put_item(text, item, index)?;
+        rest = after;
     }
-    append_byte(out, n, (item.value % 256) as u8)
+    Ok(())
+}
+
+fn put_item(text: &mut Vec<u8>, item: Item, index: u64) -> io::Result<()> {
+    match item {
+        Item::Byte(b) => Ok(text.push(b)?),
+        Item::IndexPlus(k) => write!(text, "{}", index.wrapping_add(k)),
+        Item::IndexLess(k) => write!(text, "{}", index.saturating_sub(k)),
+    }
 }

@@ -7,22 +7,50 @@
 // begins none of these stands for itself.
 #![tactic(auto)]
 
-ghost use Rattle.trial.specs.Counts.{IsPrefixLen};
+ghost use Rattle.std.specs.Prelude.{◌≤◌, IfOk, vec_len};
 
+use items::{read_byte, read_repeat};
+use std::alloc::Global;
 use std::rt::Files;
+use std::{fs, io};
 
 mod bodies;
 mod items;
-mod repeats;
 
-pub use repeats::expand;
-
-// The file where the script is `=`, or else what the script expands to.
-pub fn load(rt: &impl Files, script: &[u8], path: &[u8], text: &mut [u8]) -> usize
-    ensures { IsPrefixLen result text.new }
+// The file where the script is `=`, or else what the script expands to, but no more than the first `most` bytes.
+pub fn load(
+    rt: &(impl Files + AllocGlobal),
+    script: &str,
+    path: &str,
+    most: usize,
+) -> io::Result<Vec<u8>>
+    ensures { IfOk result (λ text. vec_len text ≤ most) }
 {
-    if trial::get_byte(script, 0) == b'=' {
-        return trial::load(rt, path, text);
+    if script != "=" {
+        return expand(rt.alloc(), script, most);
     }
-    expand(script, text)
+    let mut text = fs::read(rt, path)?;
+    text.truncate(most);
+    Ok(text)
+}
+
+// What the script expands to, but no more than its first `most` bytes.
+pub fn expand(alloc: Global, script: &str, most: usize) -> io::Result<Vec<u8>>
+    ensures { IfOk result (λ text. vec_len text ≤ most) }
+{
+    let mut text = Vec::new(alloc);
+    let mut rest = script.as_bytes();
+    while text.len() < most {
+        if let Some((repeat, after)) = read_repeat(rest) {
+            bodies::put_repeat(&mut text, repeat, most)?;
+            rest = after;
+        } else if let Some((byte, after)) = read_byte(rest) {
+            text.push(byte)?;
+            rest = after;
+        } else {
+            break;
+        }
+    }
+    text.truncate(most);
+    Ok(text)
 }

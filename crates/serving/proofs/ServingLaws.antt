@@ -5,7 +5,7 @@ use mathlib.Core.Bool.{Bool, true, false, cond, not, ◌&&◌}
 use mathlib.Core.List.{List}
 use native.Mathlib.Decide.{ℕ_discrete, dec_lt}
 use native.Mathlib.Omega.{arith}
-use borrow.Author.Tests.{ne_eqb}
+use borrow.Author.Tests.{ne_eqb, eq-eqb}
 use lib.Dec.{T, eqb, ltb, leb, leb→le, ltb→lt, le→leb, lt→ltb}
 use lib.ListN.{get_or}
 use Rattle.lists.specs.Places.{at}
@@ -20,19 +20,19 @@ use Rattle.necklace.specs.Compute.{holds?, serves?, some?, satisfies?, satisfies
 use Rattle.layout.specs.Layout.{rule_at}
 use Rattle.pattern_buffer.specs.Meaning.{labels_in, automaton_of, pattern_of}
 use Rattle.log_buffer.specs.Meaning.{steps_in, log_of}
-use Rattle.log_links.specs.Links.{LastTo}
 use Rattle.necklace.specs.Forward.{reaches?}
 use Rattle.necklace.proofs.Agrees.{reaches_some, reaches_one, reaches_from}
 use Rattle.entering.proofs.EnterLaws.{next_within}
-use Rattle.hope.specs.Hope.{HopefulSet}
 use Rattle.pass_steps.specs.PassSteps.{starts_in, bead_reaches, lane_reaches}
-use Rattle.passes.specs.Passes.{PassOf, Found}
+use Rattle.passes.specs.Passes.{Found}
 use Rattle.starts.specs.declared.Starts.{Starts}
+use Rattle.starts.specs.declared.Lanes.{Lanes}
+use Rattle.starts.specs.declared.Lanes.TheVariants.{Shared, Own}
 use Rattle.starts.specs.Starts.{prefix_at, Apart, StartsOf, ApartIf}
 use Rattle.marking.specs.Marking.{found_at}
-use Rattle.serving.specs.Serving.{Asked, serves_in, FoundIn, Served, ServedIf, AdvanceFor}
+use Rattle.serving.specs.Serving.{Asked, serves_in, FoundIn, Served, ServedIf, LanesFor}
 
-module _ (pattern log : List ℕ) (n k from : ℕ) (prefixes hopes last : List ℕ) (ask : Asked pattern log n k from prefixes hopes last) (seeds : List ℕ) (starts : Starts)
+module _ (pattern log : List ℕ) (n k from : ℕ) (prefixes : List ℕ) (ask : Asked pattern log n k from prefixes) (seeds : List ℕ) (starts : Starts)
     (of : StartsOf (prefix_at prefixes k) from n starts seeds) (found : List ℕ) (pass : Found pattern log k seeds starts.first starts.until found) where
   abbrev G : Dag
   G = log_of log
@@ -239,50 +239,40 @@ module _ (pattern log : List ℕ) (n k from : ℕ) (prefixes hopes last : List �
     found_in_is to e = let a = of.some in let b = of.inside in
         record { some = omega arith; inside = omega arith; served = λ v l. rw e (found_is v l) }
 
-  module _ (advance : ℕ) (each : ApartIf advance from starts.to seeds) where
-    pub found_by : AdvanceFor pattern k advance → FoundIn pattern log n k from starts.to found
+  module _ (lanes : Lanes) (each : ApartIf lanes from starts.to seeds) where
+    found_by : LanesFor pattern k lanes → FoundIn pattern log n k from starts.to found
     found_by a = go (ℕ_discrete (at pattern (rule_at k)) 2)
       where
         go : Dec (at pattern (rule_at k) ≡ 2) → FoundIn pattern log n k from starts.to found
         go (yes e) = found_in_is (telling_apart (each.apart (a.all e))) starts.to refl
         go (no e) = found_in_is (telling_some e) starts.to refl
 
-    pub served_by : ServedIf advance pattern log n k from starts.to seeds found
+    served_by : ServedIf lanes pattern log n k from starts.to seeds found
     served_by = record { each = λ e. served (each.apart e) starts.to refl }
 
--- ---- how lanes advance
+-- ---- how lanes are given
 
-pub advance_all : (pattern : List ℕ) (k : ℕ) → AdvanceFor pattern k 1
-advance_all pattern k = record { small = omega arith; all = λ e. refl }
+pub lanes_all : (pattern : List ℕ) (k : ℕ) → LanesFor pattern k Own
+lanes_all pattern k = record { all = λ e. refl }
 
-pub advance_some : (pattern : List ℕ) (k : ℕ) → (at pattern (rule_at k) ≡ 2 → ⊥) → AdvanceFor pattern k 0
-advance_some pattern k n = record { small = omega arith; all = λ e. absurd (n e) }
+pub lanes_some : (pattern : List ℕ) (k : ℕ) → (at pattern (rule_at k) ≡ 2 → ⊥) → LanesFor pattern k Shared
+lanes_some pattern k n = record { all = λ e. absurd (n e) }
 
-pub ruleset advance_kit = (advance_all, advance_some)
+pub ruleset lanes_kit = (lanes_all, lanes_some)
 
--- ---- what the functions ask for
+-- ---- the pass that is made: of the bead at a place, over the steps of the log
 
-module _ (pattern log : List ℕ) (n k from : ℕ) (prefixes hopes last : List ℕ) (ask : Asked pattern log n k from prefixes hopes last) where
-  pub asked_pass : PassOf pattern log k
-  asked_pass = ask.pass
+module _ (pattern log : List ℕ) (k from : ℕ) (prefixes : List ℕ) (ask : Asked pattern log (steps_in log) k from prefixes) (n : ℕ) (steps : n ≡ steps_in log) (seeds : List ℕ)
+    (starts : Starts) (chosen : StartsOf (prefix_at prefixes k) from n starts seeds) (bead : List ℕ) (place : ℕ) (same : (bead ≡ pattern) × (place ≡ k)) (found : List ℕ)
+    (passed : Found bead log place seeds starts.first starts.until found) (lanes : Lanes) (each : ApartIf lanes from starts.to seeds) where
+  of : StartsOf (prefix_at prefixes k) from (steps_in log) starts seeds
+  of = rw steps at chosen
 
-  pub asked_far : LastTo log (steps_in log) last
-  asked_far = ask.far
+  pass : Found pattern log k seeds starts.first starts.until found
+  pass = rw (same.0, same.1) at passed
 
-  pub asked_hope : HopefulSet pattern k (get_or hopes k 0)
-  asked_hope = ask.hopeful.sets k ask.bead
+  pub found_from : LanesFor pattern k lanes → FoundIn pattern log (steps_in log) k from starts.to found
+  found_from a = found_by pattern log (steps_in log) k from prefixes ask seeds starts of found pass lanes each a
 
-  pub asked_bead : k < 8
-  asked_bead = ask.pass.bead.place
-
-  pub asked_begin : from < n
-  asked_begin = ask.begin
-
-  pub asked_few : n ≤ 1024
-  asked_few = let e = ask.steps_are in let f = ask.pass.laid.few in omega arith
-
-  pub asked_until : (f : ℕ → Bool) (starts : Starts) (seeds : List ℕ) → StartsOf f from n starts seeds → starts.until ≤ steps_in log
-  asked_until f starts seeds of = let e = ask.steps_are in let a = of.inside in let b = of.end in omega arith
-
-pub asked_advance : (pattern : List ℕ) (k advance : ℕ) → AdvanceFor pattern k advance → advance ≤ 1
-asked_advance pattern k advance a = a.small
+  pub served_from : ServedIf lanes pattern log (steps_in log) k from starts.to seeds found
+  served_from = served_by pattern log (steps_in log) k from prefixes ask seeds starts of found pass lanes each

@@ -8,10 +8,10 @@ use native.Mathlib.Nat.{add-zero, one-mul, div-eq_of_lt, div-one, mod-lt}
 use native.Mathlib.Nat.{eq-or-lt_of_le, le_trans, lt_of_not-le, not-suc-le-zero}
 use native.Mathlib.Numerals.{add-one}
 use native.Mathlib.Omega.{arith}
-use borrow.Author.Tests.{eqb-true, eqb-false}
+use borrow.Author.Tests.{eqb-true, eqb-false, le-leb, lt-ltb}
 use lib.Bits.{bit_or, bit_and, or_lt}
 use lib.Count.{ones, ones_in, ones_cat, ones_step}
-use lib.Dec.{T, eqb, ltb, leb, eqb→eq, eqb_refl, ltb→lt, lt→ltb, leb→le, T_not, not_T, eqb-suc-zero, eqb-zero-suc, eqb-suc-suc}
+use lib.Dec.{T, eqb, ltb, leb, eqb→eq, eqb_refl, ltb→lt, lt→ltb, T_not, not_T, eqb-suc-zero, eqb-zero-suc, eqb-suc-suc}
 use lib.ListN.{length}
 use lib.Pow.{ones_sub-lt, pow-lt, pow_mono, pow_pos, shr-shr}
 use Rattle.sets.specs.Sets.{◌∈◌, member, set_of, singleton, union, intersection, complement, Overlap, Within, Single}
@@ -364,25 +364,20 @@ within_is n s =
     same (eqb (s / 2 ^ n) 0) (within n s) (λ t. lt→ltb s (2 ^ n) (quotient_below n s (eqb→eq (s / 2 ^ n) 0 t)))
     (λ t. rw (div-eq_of_lt (ltb→lt s (2 ^ n) t)) (eqb_refl 0))
 
+-- every u16 is within 16 and more
+pub within_wide : (n s : ℕ) → s < 2 ^ 16 → 16 ≤ n → leb 16 n ≡ within n s
+within_wide n s h l =
+    let p : 2 ^ 16 ≤ 2 ^ n = pow_mono l in
+    le-leb 16 n l ∙ sym (lt-ltb s (2 ^ n) (omega arith))
+
 -- ---- the machine's shift `1 << n` is 2 ^ n modulo m, where m is one more than the largest number of its type
 
 module _ (k m n s : ℕ) (h : n ≤ k) (fits : T (ltb (2 ^ k) m)) where
   full : 1 * 2 ^ n % m ≡ 2 ^ n
   full = let l : 2 ^ n ≤ 2 ^ k = pow_mono h in let g = ltb→lt (2 ^ k) m fits in shift_exact m n (omega arith)
 
-  pub full_positive : 0 < 1 * 2 ^ n % m
-  full_positive = rw full (pow_pos n)
-
-  pub rest_small : s % (1 * 2 ^ n % m) ≤ 1 * 2 ^ n % m - 1
-  rest_small = rw full (let l : s % 2 ^ n < 2 ^ n = mod-lt s (pow_pos n) in omega arith)
-
   pub complement_shift : 1 * 2 ^ n % m - 1 - s % (1 * 2 ^ n % m) ≡ complement n s
   complement_shift = rw full (complement_is n s)
-
-  pub complement_fits : (w : ℕ) → T (leb (2 ^ k) w) → 1 * 2 ^ n % m - 1 - s % (1 * 2 ^ n % m) < w
-  complement_fits w wide =
-      rw complement_shift
-      (let l : 2 ^ n ≤ 2 ^ k = pow_mono h in let g = leb→le (2 ^ k) w wide in let b = complement_below n s in omega arith)
 
 -- for a loop that gathers a set
 pub ruleset gathering = (set_of_none, set_of_put, set_of_skip, set_of_end)
@@ -394,8 +389,6 @@ pub ruleset kit = (
   overlaps_is,
   single_count,
   within_is,
-  full_positive,
-  rest_small,
+  within_wide,
   complement_shift,
-  complement_fits,
 )

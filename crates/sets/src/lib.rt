@@ -13,8 +13,9 @@ pub fn member(s: u16, i: u16) -> bool
     (s >> i) % 2 == 1
 }
 
-// The set {i}: 2 to the i, as the wall chart has it (specs/Chart.antt), a case a line. The language wants the last arm; `requires` rules
-// it out.
+// The set {i}: 2 to the i, as the wall chart has it (specs/Chart.antt), a case a line. It stays a `match`, and no `1 << i`, because fitters
+// tick its cases off against the chart (docs/DECISIONS.md, "Ask 4"). The language wants the last arm; `requires` rules it out.
+#[tactic(auto, using(crate::proofs::ChartLaws::chart_kit))]
 pub fn singleton(i: u16) -> u16
     requires { i < 16 }
     ensures { result ≡ singleton i }
@@ -41,6 +42,7 @@ pub fn singleton(i: u16) -> u16
 }
 
 // The members of either set.
+#[tactic(auto, using(crate::proofs::Laws::kit))]
 pub fn union(s: u16, t: u16) -> u16
     ensures { result ≡ union 16 s t }
 {
@@ -48,6 +50,7 @@ pub fn union(s: u16, t: u16) -> u16
 }
 
 // The members of both sets.
+#[tactic(auto, using(crate::proofs::Laws::kit))]
 pub fn intersection(s: u16, t: u16) -> u16
     ensures { result ≡ intersection 16 s t }
 {
@@ -55,30 +58,33 @@ pub fn intersection(s: u16, t: u16) -> u16
 }
 
 // The numbers below n that are not members of s.
+#[tactic(auto, using(crate::proofs::Laws::kit))]
 pub fn complement(s: u16, n: u16) -> u16
     requires { n ≤ 16 }
     ensures { result ≡ complement n s }
 {
     let full: u32 = 1 << n;
-    (full - 1 - (s as u32) % full) as u16
+    (full - 1 - u32::from(s) % full) as u16
 }
 
 // Have the two sets a member in common?
+#[tactic(auto, using(crate::proofs::Laws::kit))]
 pub fn overlaps(s: u16, t: u16) -> bool
     ensures { result ≡ overlaps 16 s t }
 {
     s & t != 0
 }
 
-// Is every member of s below n?
+// Is every member of s below n? A u16 has none from 16 on.
+#[tactic(auto, using(crate::proofs::Laws::kit))]
 pub fn within(s: u16, n: u16) -> bool
-    requires { n ≤ 16 }
     ensures { result ≡ within n s }
 {
-    (s as u32) >> n == 0
+    n >= 16 || s >> n == 0
 }
 
 // Has s exactly one member? The language's count of ones, against 1.
+#[tactic(auto, using(crate::proofs::Laws::kit))]
 pub fn single(s: u16) -> bool
     ensures { result ≡ single 16 s }
 {

@@ -5,53 +5,51 @@
 
 ghost use Rattle.std.specs.Prelude.{◌≤◌};
 
-// The number of the first item with this letter; without such an item the other one.
-pub fn value(settings: &[u8], letter: u8, other: u16) -> u16 {
-    let mut at = 0;
-    while at < settings.len() {
-        let end = trial::find_byte(settings, at, b',');
-        if settings[at] == letter {
-            return trial::small_number(trial::part(settings, at + 1, end));
+#[derive(Clone, Copy)]
+pub struct Settings<'a> {
+    items: &'a str,
+}
+
+impl<'a> Settings<'a> {
+    pub fn new(items: &'a str) -> Settings<'a> {
+        Settings { items }
+    }
+
+    // The number of the first item with this letter.
+    pub fn value(self, letter: char) -> Option<u16> {
+        self.items
+            .split(',')
+            .find_map(|item| item.strip_prefix(letter)?.parse().ok())
+    }
+
+    // The same, or the most where that is less or there is no such item.
+    pub fn at_most(self, letter: char, most: usize) -> usize
+        ensures { result ≤ most }
+    {
+        match self.value(letter) {
+            Some(n) => usize::from(n).min(most),
+            None => most,
         }
-        at = end + 1;
     }
-    other
-}
 
-// The same, or the most where that is less.
-pub fn at_most(settings: &[u8], letter: u8, most: usize) -> usize
-    ensures { result ≤ most }
-{
-    let n = value(settings, letter, 65535) as usize;
-    if n < most {
-        return n;
+    // As many numbers of the buffer as the settings say.
+    pub fn lent<'b>(self, letter: char, buffer: &'b [u16]) -> &'b [u16] {
+        let n = self.at_most(letter, buffer.len());
+        &buffer[..n]
     }
-    most
-}
 
-// As many numbers of the buffer as the settings say.
-pub fn lent<'a>(settings: &[u8], letter: u8, buffer: &'a [u16]) -> &'a [u16] {
-    let n = at_most(settings, letter, buffer.len());
-    &buffer[..n]
-}
-
-// Sets the place of each item with this letter.
-pub fn damage(settings: &[u8], letter: u8, buffer: &mut [u16]) {
-    let mut at = 0;
-    while at < settings.len() {
-        let end = trial::find_byte(settings, at, b',');
-        set_place(trial::part(settings, at, end), letter, buffer);
-        at = end + 1;
+    // Sets the place of each item with this letter.
+    pub fn damage(self, letter: char, buffer: &mut [u16]) {
+        for item in self.items.split(',') {
+            if let Some((place, number)) = read_place(item, letter) {
+                trial::put(buffer, place, number);
+            }
+        }
     }
 }
 
-// Does what one item says, if it has this letter.
-fn set_place(item: &[u8], letter: u8, buffer: &mut [u16]) {
-    if trial::get_byte(item, 0) != letter {
-        return;
-    }
-    let sign = trial::find_byte(item, 0, b'=');
-    let place = trial::small_number(trial::part(item, 1, sign));
-    let number = trial::small_number(trial::part(item, sign + 1, item.len()));
-    trial::put(buffer, place as usize, number);
+// The place that the item sets, if it has this letter, and the number.
+fn read_place(item: &str, letter: char) -> Option<(usize, u16)> {
+    let (place, number) = item.strip_prefix(letter)?.split_once('=')?;
+    Some((place.parse().ok()?, number.parse().ok()?))
 }

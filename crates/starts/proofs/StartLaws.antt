@@ -51,18 +51,6 @@ module _ (u lane : ℕ) (b : Bool) (old new : List ℕ) (inside : u < length old
       go (yes z) = let r = lane_is b (subst (λ (s : ℕ). T (member i s)) (own_seed w z) m) in inl (z, r.0, r.1)
       go (no n) = inr (below_next w u h n, subst (λ (s : ℕ). T (member i s)) (other_seed w n) m)
 
--- the bounds stay where the step is not chosen
-pub extended_not : (from : ℕ) (b : Bool) (starts : Starts) → from ≤ starts.first → starts.first ≤ starts.to → starts.until ≤ starts.to → b ≡ false
-    → Extended from b starts (record { first = starts.first; until = starts.until; to = starts.to + 1 })
-extended_not from b starts begin low end n = record {
-  next = refl;
-  begin = begin;
-  low = omega arith;
-  end = omega arith;
-  own = λ e. absurd (subst T (sym e ∙ n) tt);
-  kept = λ u h k l. (k, l);
-}
-
 -- ---- one more step
 
 module _ (f : ℕ → Bool) (from lane : ℕ) (b : Bool) (starts next : Starts) (old new : List ℕ) (d : Looked f from starts old) (free : lane < 16)

@@ -5,6 +5,8 @@ use Rattle.necklace.specs.Dag.{Dag}
 use Rattle.necklace.specs.Necklace.{Pattern}
 use Rattle.necklace.specs.Compute.{holds?}
 use Rattle.starts.specs.declared.Starts.{Starts}
+use Rattle.starts.specs.declared.Lanes.{Lanes}
+use Rattle.starts.specs.declared.Lanes.TheVariants.{Own}
 
 -- Do the first k beads hold at u, by the marks? The first none hold at vertex 0 alone.
 unfoldable pub prefix_at : List ℕ → ℕ → ℕ → Bool
@@ -50,12 +52,12 @@ pub record Extended (from : ℕ) (chosen : Bool) (old new : Starts) : Type 0 whe
   pub own : chosen ≡ true → (new.first ≤ old.to) × (old.to < new.until)
   pub kept : (u : ℕ) → from ≤ u → old.first ≤ u → u < old.until → (new.first ≤ u) × (u < new.until)
 
--- No two share a lane, where each gets the next one.
-pub record ApartIf (advance from to : ℕ) (seeds : List ℕ) : Type 0 where
-  pub apart : advance ≡ 1 → Apart from to seeds
+-- No two share a lane, where each has its own.
+pub record ApartIf (lanes : Lanes) (from to : ℕ) (seeds : List ℕ) : Type 0 where
+  pub apart : lanes ≡ Own → Apart from to seeds
 
 -- The same with the next lane: all that are given are below it, and they are no more than the steps.
-pub record LanesBelow (advance from to lane : ℕ) (seeds : List ℕ) : Type 0 where
-  pub apart : advance ≡ 1 → Apart from to seeds
-  pub used : advance ≡ 1 → (i u : ℕ) → from ≤ u → u < to → T (member i (get_or seeds u 0)) → i < lane
+pub record LanesBelow (lanes : Lanes) (from to lane : ℕ) (seeds : List ℕ) : Type 0 where
+  pub apart : lanes ≡ Own → Apart from to seeds
+  pub used : lanes ≡ Own → (i u : ℕ) → from ≤ u → u < to → T (member i (get_or seeds u 0)) → i < lane
   pub few : from + lane ≤ to

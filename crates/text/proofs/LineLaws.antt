@@ -3,20 +3,19 @@
 use mathlib.Core.Path.{◌≡◌, refl, sym, ap, ◌∙◌}
 use mathlib.Core.Bool.{Bool, true, false, cond, ◌&&◌}
 use mathlib.Core.List.{List, [], ◌∷◌, ◌++◌}
-use Prim.Native.Nat.{ℕ, suc, ◌+◌, ◌-◌, ◌≤◌, ◌<◌}
+use Prim.Native.Nat.{ℕ, suc, ◌+◌, ◌≤◌, ◌<◌}
 use native.Mathlib.Omega.{arith}
 use native.Mathlib.Nat.{zero-add}
 use native.Mathlib.Numerals.{add-one}
-use borrow.Author.Tests.{le-leb, lt-leb, lt-ltb, le-ltb}
+use borrow.Author.Tests.{le-leb, lt-ltb, le-ltb}
 use lib.Dec.{ltb}
 use lib.ListN.{length, get_or, take, drop, drop_of_length-le}
 use lib.Seq.{length-take-le, take-suc}
 use Rattle.text.specs.Split.{prepend, split}
 use Rattle.text.specs.Lines.{TextLine, last_line, as_lines, lines_of, printable_byte, printable, head_line, first_line, line_of, ended}
-use Rattle.text.specs.declared.lines.End.{End}
-use Rattle.text.specs.declared.lines.End.TheVariants.{At, Over, Missing}
+use Rattle.std.specs.Prelude.{Result, Ok, Err}
+use Rattle.text.specs.declared.lines.LineFault.{LineFault}
 use Rattle.text.specs.declared.lines.LineFault.TheVariants.{Long, Unended, Unprintable}
-use Rattle.text.specs.declared.lines.Line.TheVariants.{Whole, Broken}
 use Rattle.lists.proofs.Parts.{drop_step}
 use Rattle.text.proofs.SplitLaws.{split_at, split_on, split_empty, split_some, Cut, uncut, cut, cut_of}
 
@@ -38,23 +37,23 @@ line_goes x xs n = go (split 10 xs) refl (split_some 10 xs).2
     go (p ∷ (q ∷ ps)) e s = ap head_line (split_on 10 x xs n ∙ ap (prepend x) e) ∙ rw e
 
 -- Where a line ends of which i bytes, none a newline, are passed, and m is left of the text.
-pub end_from : ℕ → ℕ → List ℕ → End
+pub end_from : ℕ → ℕ → List ℕ → Result ℕ LineFault
 end_from most i m =
-    cond (ltb most (i + length (first_line m).bytes)) Over (cond (first_line m).newline (At (i + length (first_line m).bytes)) Missing)
+    cond (ltb most (i + length (first_line m).bytes)) (Err Long) (cond (first_line m).newline (Ok (i + length (first_line m).bytes)) (Err Unended))
 
 pub end_none : (most : ℕ) (l : List ℕ) → ended most l ≡ end_from most 0 (drop 0 l)
 unfolding end_from
 end_none most l = rw zero-add
 
 module _ (most : ℕ) (l : List ℕ) (i : ℕ) (low : i ≤ most) (inv : ended most l ≡ end_from most i (drop i l)) where
-  pub end_found : i < length l → get_or l i 0 ≡ 10 → At i ≡ ended most l
+  pub end_found : i < length l → get_or l i 0 ≡ 10 → Ok i ≡ ended most l
   unfolding end_from
   end_found h e =
       let q = ap first_line (drop_step l i h) ∙ line_ends (get_or l i 0) _ e in
       let z : i + 0 ≡ i = omega arith in
       sym (inv ∙ rw (q, z) (simp (le-ltb most i low)))
 
-  pub end_over : i < length l → (get_or l i 0 ≡ 10 → ⊥) → i ≡ most → Over ≡ ended most l
+  pub end_over : i < length l → (get_or l i 0 ≡ 10 → ⊥) → i ≡ most → Err Long ≡ ended most l
   unfolding end_from
   end_over h n e =
       let q = ap first_line (drop_step l i h) ∙ line_goes (get_or l i 0) _ n in
@@ -67,7 +66,7 @@ module _ (most : ℕ) (l : List ℕ) (i : ℕ) (low : i ≤ most) (inv : ended m
       let z : i + suc (length (first_line (drop (i + 1) l)).bytes) ≡ i + 1 + length (first_line (drop (i + 1) l)).bytes = omega arith in
       inv ∙ rw (q, z)
 
-  pub end_missing : length l ≤ i → Missing ≡ ended most l
+  pub end_missing : length l ≤ i → Err Unended ≡ ended most l
   unfolding end_from
   end_missing h =
       let q = ap first_line (drop_of_length-le l h) ∙ line_empty in
@@ -82,35 +81,9 @@ printable_step : (x : ℕ) (xs : List ℕ) → 32 ≤ x → x ≤ 126 → printa
 unfolding printable
 printable_step x xs h k = simp (le-leb 32 x h, le-leb x 126 k)
 
-printable_low : (x : ℕ) (xs : List ℕ) → x < 32 → printable (x ∷ xs) ≡ false
-unfolding printable
-printable_low x xs h = simp (lt-leb 32 x h)
-
-printable_high : (x : ℕ) (xs : List ℕ) → 126 < x → printable (x ∷ xs) ≡ false
-unfolding printable
-printable_high x xs h = simp (le-leb 32 x (omega arith), lt-leb x 126 h)
-
 printable_nil : printable [] ≡ true
 unfolding printable
 printable_nil = refl
-
-module _ (l : List ℕ) (i : ℕ) (inv : printable l ≡ printable (drop i l)) where
-  here : i < length l → printable l ≡ printable (get_or l i 0 ∷ drop (i + 1) l)
-  here h = inv ∙ ap printable (drop_step l i h)
-
-  pub byte_low : i < length l → get_or l i 0 < 32 → false ≡ printable l
-  byte_low h k = sym (here h ∙ printable_low (get_or l i 0) _ k)
-
-  pub byte_high : i < length l → 126 < get_or l i 0 → false ≡ printable l
-  byte_high h k = sym (here h ∙ printable_high (get_or l i 0) _ k)
-
-  pub byte_more : i < length l → 32 ≤ get_or l i 0 → get_or l i 0 ≤ 126 → printable l ≡ printable (drop (i + 1) l)
-  byte_more h k m = here h ∙ printable_step (get_or l i 0) _ k m
-
-  pub byte_all : length l ≤ i → true ≡ printable l
-  byte_all h = sym (inv ∙ ap printable (drop_of_length-le l h) ∙ printable_nil)
-
-pub ruleset byte_kit = (byte_low, byte_high, byte_more, byte_all)
 
 -- ---- the first line and the lines after it
 
@@ -141,33 +114,25 @@ lead_of m = go (cut_of 10 m)
 
 -- ---- the answers of `find_end`, put together with the bytes
 
-module _ (most : ℕ) (l : List ℕ) (r : End) (d : r ≡ ended most l) where
-  pub line_long : r ≡ Over → Broken Long ≡ line_of most l
-  line_long p = go (ltb most (length (first_line l).bytes)) refl (first_line l).newline refl (sym p ∙ d)
+module _ (most : ℕ) (l : List ℕ) (r : Result ℕ LineFault) (d : r ≡ ended most l) where
+  pub line_cut : (f : LineFault) → r ≡ Err f → Err f ≡ line_of most l
+  line_cut f p = go (ltb most (length (first_line l).bytes)) refl (first_line l).newline refl (sym p ∙ d)
     where
-      go : (t : Bool) → ltb most (length (first_line l).bytes) ≡ t → (u : Bool) → (first_line l).newline ≡ u → Over ≡ ended most l → Broken Long ≡ line_of most l
-      go true e u f q = rw e
-      go false e true f q = let z : Over ≡ At (length (first_line l).bytes) = q ∙ rw (e, f) in let y : ◌≡◌ {A = ℕ} 0 1 = cc in absurd (omega arith)
-      go false e false f q = let z : Over ≡ Missing = q ∙ rw (e, f) in let y : ◌≡◌ {A = ℕ} 0 1 = cc in absurd (omega arith)
+      go : (t : Bool) → ltb most (length (first_line l).bytes) ≡ t → (u : Bool) → (first_line l).newline ≡ u → Err f ≡ ended most l → Err f ≡ line_of most l
+      go true e u g q = q ∙ rw e refl
+      go false e true g q = let z : Err f ≡ Ok (length (first_line l).bytes) = q ∙ rw (e, g) in let y : ◌≡◌ {A = ℕ} 0 1 = cc in absurd (omega arith)
+      go false e false g q = q ∙ rw (e, g) refl
 
-  pub line_unended : r ≡ Missing → Broken Unended ≡ line_of most l
-  line_unended p = go (ltb most (length (first_line l).bytes)) refl (first_line l).newline refl (sym p ∙ d)
-    where
-      go : (t : Bool) → ltb most (length (first_line l).bytes) ≡ t → (u : Bool) → (first_line l).newline ≡ u → Missing ≡ ended most l → Broken Unended ≡ line_of most l
-      go true e u f q = let z : Missing ≡ Over = q ∙ rw e in let y : ◌≡◌ {A = ℕ} 0 1 = cc in absurd (omega arith)
-      go false e true f q = let z : Missing ≡ At (length (first_line l).bytes) = q ∙ rw (e, f) in let y : ◌≡◌ {A = ℕ} 0 1 = cc in absurd (omega arith)
-      go false e false f q = rw (e, f)
-
-  module _ (n : ℕ) (p : r ≡ At n) where
+  module _ (n : ℕ) (p : r ≡ Ok n) where
     -- the line ends at n: it has a newline, n bytes before it, and no more than allowed
     found : (ltb most (length (first_line l).bytes) ≡ false) × ((first_line l).newline ≡ true) × (n ≡ length (first_line l).bytes)
     found = go (ltb most (length (first_line l).bytes)) refl (first_line l).newline refl (sym p ∙ d)
       where
-        go : (t : Bool) → ltb most (length (first_line l).bytes) ≡ t → (u : Bool) → (first_line l).newline ≡ u → At n ≡ ended most l
+        go : (t : Bool) → ltb most (length (first_line l).bytes) ≡ t → (u : Bool) → (first_line l).newline ≡ u → Ok n ≡ ended most l
             → (ltb most (length (first_line l).bytes) ≡ false) × ((first_line l).newline ≡ true) × (n ≡ length (first_line l).bytes)
-        go true e u f q = let z : At n ≡ Over = q ∙ rw e in let y : ◌≡◌ {A = ℕ} 0 1 = cc in absurd (omega arith)
-        go false e true f q = let z : At n ≡ At (length (first_line l).bytes) = q ∙ rw (e, f) in (e, f, cc)
-        go false e false f q = let z : At n ≡ Missing = q ∙ rw (e, f) in let y : ◌≡◌ {A = ℕ} 0 1 = cc in absurd (omega arith)
+        go true e u f q = let z : Ok n ≡ Err Long = q ∙ rw e in let y : ◌≡◌ {A = ℕ} 0 1 = cc in absurd (omega arith)
+        go false e true f q = let z : ◌≡◌ {A = Result ℕ LineFault} (Ok n) (Ok (length (first_line l).bytes)) = q ∙ rw (e, f) in (e, f, cc)
+        go false e false f q = let z : Ok n ≡ Err Unended = q ∙ rw (e, f) in let y : ◌≡◌ {A = ℕ} 0 1 = cc in absurd (omega arith)
 
     before : ((first_line l).bytes ≡ take n l) × (n < length l)
     before = go (lead_of l)
@@ -185,17 +150,17 @@ module _ (most : ℕ) (l : List ℕ) (r : End) (d : r ≡ ended most l) where
     pub end_counts : n ≡ length (take n l)
     end_counts = sym (length-take-le n l end_inside)
 
-    pub line_whole : (t : Bool) → t ≡ printable (take n l) → t ≡ true → Whole n ≡ line_of most l
+    pub line_whole : (t : Bool) → t ≡ printable (take n l) → t ≡ true → Ok n ≡ line_of most l
     line_whole t g e =
         let y : printable (first_line l).bytes ≡ true = ap printable before.0 ∙ sym g ∙ e in
-        ap Whole found.2 ∙ sym (rw (found.0, found.1, y) refl)
+        ap Ok found.2 ∙ sym (rw (found.0, found.1, y) refl)
 
-    pub line_unprintable : (t : Bool) → t ≡ printable (take n l) → t ≡ false → Broken Unprintable ≡ line_of most l
+    pub line_unprintable : (t : Bool) → t ≡ printable (take n l) → t ≡ false → Err Unprintable ≡ line_of most l
     line_unprintable t g e =
         let y : printable (first_line l).bytes ≡ false = ap printable before.0 ∙ sym g ∙ e in
         sym (rw (found.0, found.1, y) refl)
 
-pub ruleset line_kit = (line_long, line_unended, end_inside, end_counts, line_whole, line_unprintable)
+pub ruleset line_kit = (line_cut, end_inside, end_counts, line_whole, line_unprintable)
 
 -- ---- a line without a fault, in one pass
 
@@ -213,11 +178,11 @@ pub clean_none : (l : List ℕ) → printable (take 0 l) ≡ true
 clean_none l = printable_nil
 
 module _ (most : ℕ) (l : List ℕ) (i : ℕ) (low : i ≤ most) (inv : ended most l ≡ end_from most i (drop i l)) (clean : printable (take i l) ≡ true) where
-  pub once_whole : i < length l → get_or l i 0 ≡ 10 → Whole i ≡ line_of most l
-  once_whole h e = line_whole most l (At i) (end_found most l i low inv h e) i refl true (sym clean) refl
+  pub once_whole : i < length l → get_or l i 0 ≡ 10 → Ok i ≡ line_of most l
+  once_whole h e = line_whole most l (Ok i) (end_found most l i low inv h e) i refl true (sym clean) refl
 
-  pub once_long : i < length l → 32 ≤ get_or l i 0 → most ≤ i → Broken Long ≡ line_of most l
-  once_long h k m = line_long most l Over (end_over most l i low inv h (λ z. omega arith) (omega arith)) refl
+  pub once_long : i < length l → 32 ≤ get_or l i 0 → most ≤ i → Err Long ≡ line_of most l
+  once_long h k m = line_cut most l (Err Long) (end_over most l i low inv h (λ z. omega arith) (omega arith)) Long refl
 
   pub once_more : i < length l → 32 ≤ get_or l i 0 → ended most l ≡ end_from most (i + 1) (drop (i + 1) l)
   once_more h k = end_more most l i low inv h (λ z. omega arith)
@@ -225,7 +190,7 @@ module _ (most : ℕ) (l : List ℕ) (i : ℕ) (low : i ≤ most) (inv : ended m
   pub once_clean : i < length l → 32 ≤ get_or l i 0 → get_or l i 0 ≤ 126 → printable (take (i + 1) l) ≡ true
   once_clean h k m = ap printable (ap (λ (j : ℕ). take j l) (add-one i) ∙ take-suc l i 0 h) ∙ printable_snoc (take i l) (get_or l i 0) clean k m
 
-  pub once_unended : length l ≤ i → Broken Unended ≡ line_of most l
-  once_unended h = line_unended most l Missing (end_missing most l i low inv h) refl
+  pub once_unended : length l ≤ i → Err Unended ≡ line_of most l
+  once_unended h = line_cut most l (Err Unended) (end_missing most l i low inv h) Unended refl
 
 pub ruleset once_kit = (end_none, clean_none, once_whole, once_long, once_more, once_clean, once_unended)

@@ -13,8 +13,7 @@ use Rattle.text.specs.Lines.{TextLine, last_line, lines_of, printable, first_lin
 use Rattle.text.specs.Walk.{Judged, refused, passed, Outcome, accepted, faulty, proceed, walk, Format, read_text}
 use Rattle.text.specs.declared.lines.LineFault.{LineFault}
 use Rattle.text.specs.declared.lines.LineFault.TheVariants.{Long, Unended, Unprintable}
-use Rattle.text.specs.declared.lines.Line.{Line}
-use Rattle.text.specs.declared.lines.Line.TheVariants.{Whole, Broken}
+use Rattle.std.specs.Prelude.{Result, Ok, Err}
 use Rattle.lists.proofs.Parts.{rest_part}
 use Rattle.text.proofs.Spelled.{no_lines}
 use Rattle.text.proofs.LineLaws.{Lead, unended, ends, lead_of}
@@ -47,8 +46,8 @@ walk_step judge s n l ls t e = go (judge s n l) refl (sym (walk_cons judge s n l
 
 -- Which way the answer came about, from the three tests.
 pub data Tested (most : ℕ) (l : TextLine) : Type 0 where
-  whole_passes : answer_of most l ≡ Whole (length l.bytes) → whole most l ≡ true → l.newline ≡ true → Tested most l
-  is_broken : (f : LineFault) → answer_of most l ≡ Broken f → whole most l ≡ false → Tested most l
+  whole_passes : answer_of most l ≡ Ok (length l.bytes) → whole most l ≡ true → l.newline ≡ true → Tested most l
+  is_broken : (f : LineFault) → answer_of most l ≡ Err f → whole most l ≡ false → Tested most l
 
 pub tested : (most : ℕ) (l : TextLine) → Tested most l
 tested most l = go (ltb most (length l.bytes)) refl l.newline refl (printable l.bytes) refl
@@ -65,17 +64,17 @@ pub record Next (most : ℕ) (m : List ℕ) (n : ℕ) : Type 0 where
   pub lines : lines_of m ≡ record { bytes = take n m; newline = true } ∷ lines_of (drop (n + 1) m)
   pub whole_passes : whole most (record { bytes = take n m; newline = true }) ≡ true
 
-pub next_line : (most : ℕ) (m : List ℕ) (n : ℕ) → line_of most m ≡ Whole n → Next most m n
+pub next_line : (most : ℕ) (m : List ℕ) (n : ℕ) → line_of most m ≡ Ok n → Next most m n
 next_line most m n e = go (lead_of m) (tested most (first_line m))
   where
     go : Lead m → Tested most (first_line m) → Next most m n
     go (unended f s) (whole_passes a w b) = let z : ◌≡◌ {A = Bool} false true = sym (ap (λ (x : TextLine). x.newline) f) ∙ b in let y : ◌≡◌ {A = ℕ} 0 1 = cc in absurd (omega arith)
     go (ends k h f s) (whole_passes a w b) =
-        let z : Whole (length (first_line m).bytes) ≡ Whole n = sym a ∙ e in
+        let z : Ok (length (first_line m).bytes) ≡ Ok n = sym a ∙ e in
         let y : length (first_line m).bytes ≡ n = cc in
         let x : k ≡ n = sym (length-take-le k m (omega arith)) ∙ sym (ap (λ (t : TextLine). length t.bytes) f) ∙ y in
         record { inside = omega arith; lines = rw (sym x) s; whole_passes = rw (sym x) (ap (whole most) (sym f) ∙ w) }
-    go g (is_broken f a w) = let z : ◌≡◌ {A = Line} (Broken f) (Whole n) = sym a ∙ e in let y : ◌≡◌ {A = ℕ} 0 1 = cc in absurd (omega arith)
+    go g (is_broken f a w) = let z : ◌≡◌ {A = Result ℕ LineFault} (Err f) (Ok n) = sym a ∙ e in let y : ◌≡◌ {A = ℕ} 0 1 = cc in absurd (omega arith)
 
 -- A first line that is not whole.
 pub record Stuck (most : ℕ) (m : List ℕ) : Type 0 where
@@ -84,7 +83,7 @@ pub record Stuck (most : ℕ) (m : List ℕ) : Type 0 where
   pub lines : lines_of m ≡ first ∷ others
   pub not_whole : whole most first ≡ false
 
-pub stuck_line : (most : ℕ) (m : List ℕ) (f : LineFault) → 0 < length m → line_of most m ≡ Broken f → Stuck most m
+pub stuck_line : (most : ℕ) (m : List ℕ) (f : LineFault) → 0 < length m → line_of most m ≡ Err f → Stuck most m
 stuck_line most m f h e = go (lead_of m) (tested most (first_line m))
   where
     last : (k : List ℕ) → 0 < length k → last_line k ≡ record { bytes = k; newline = false } ∷ []
@@ -92,7 +91,7 @@ stuck_line most m f h e = go (lead_of m) (tested most (first_line m))
     last (x ∷ xs) h = refl
 
     go : Lead m → Tested most (first_line m) → Stuck most m
-    go g (whole_passes a w b) = let z : ◌≡◌ {A = Line} (Whole (length (first_line m).bytes)) (Broken f) = sym a ∙ e in let y : ◌≡◌ {A = ℕ} 0 1 = cc in absurd (omega arith)
+    go g (whole_passes a w b) = let z : ◌≡◌ {A = Result ℕ LineFault} (Ok (length (first_line m).bytes)) (Err f) = sym a ∙ e in let y : ◌≡◌ {A = ℕ} 0 1 = cc in absurd (omega arith)
     go (unended k s) (is_broken q a w) = record {
       first = record { bytes = m; newline = false };
       others = [];
@@ -124,19 +123,19 @@ module _ {S : Type 0} (judge : S → ℕ → TextLine → Judged S) (s : S) (n :
   pub text_end : length text ≤ at → all ≡ accepted s
   text_end h = inv ∙ ap (λ (m : List ℕ). walk judge s n (lines_of m)) (drop_of_length-le text h) ∙ ap (walk judge s n) no_lines ∙ walk_end judge s n
 
-  module _ (most : ℕ) (r : Line) (given : r ≡ line_of most (take (length text - at) (drop at text))) where
+  module _ (most : ℕ) (r : Result ℕ LineFault) (given : r ≡ line_of most (take (length text - at) (drop at text))) where
     said : r ≡ line_of most (drop at text)
     said = given ∙ ap (line_of most) (rest_part text at)
 
     -- every format refuses a line that is not whole, with one number
     pub text_broken : (k : ℕ) → ((t : S) (m : ℕ) (l : TextLine) → whole most l ≡ false → judge t m l ≡ refused k)
-        → at < length text → (f : LineFault) → r ≡ Broken f → all ≡ faulty k n
+        → at < length text → (f : LineFault) → r ≡ Err f → all ≡ faulty k n
     text_broken k strict h f p =
         let w = stuck_line most (drop at text) f (let d = length-drop at text in omega arith) (sym said ∙ p) in
         inv ∙ ap (walk judge s n) w.lines ∙ walk_line judge s n w.first w.others
         ∙ ap (λ (j : Judged S). proceed n j (λ t. walk judge t (n + 1) w.others)) (strict s n w.first w.not_whole)
 
-    module _ (e : ℕ) (p : r ≡ Whole e) where
+    module _ (e : ℕ) (p : r ≡ Ok e) where
       next : Next most (drop at text) e
       next = next_line most (drop at text) e (sym said ∙ p)
 
@@ -164,7 +163,7 @@ module _ {S : Type 0} (judge : S → ℕ → TextLine → Judged S) (s : S) (n :
       text_passed t q = forward ∙ ap (λ (j : Judged S). proceed n j (λ u. walk judge u (n + 1) (lines_of (drop (at + e + 1) text)))) q
 
 -- What the code asks of numbers where a whole line was found.
-module _ (text : List ℕ) (at most : ℕ) (r : Line) (given : r ≡ line_of most (take (length text - at) (drop at text))) (e : ℕ) (p : r ≡ Whole e) where
+module _ (text : List ℕ) (at most : ℕ) (r : Result ℕ LineFault) (given : r ≡ line_of most (take (length text - at) (drop at text))) (e : ℕ) (p : r ≡ Ok e) where
   length_left : at + e < length text
   length_left =
       let i = (next_line most (drop at text) e (sym (given ∙ ap (line_of most) (rest_part text at)) ∙ p)).inside in

@@ -1,12 +1,10 @@
 -- The lines of a text (document 01, "Texts"): byte 10 ends a line. What follows the last newline is a line too, without one,
 -- if it has any byte.
-use Rattle.std.specs.Prelude.{ℕ, Bool, true, false, cond, ◌&&◌, List, [], ◌∷◌, leb, ltb, length}
+use Rattle.std.specs.Prelude.{ℕ, Bool, true, false, cond, ◌&&◌, List, [], ◌∷◌, leb, ltb, length, Result, Ok, Err}
+use Rattle.std.specs.List.{list_all}
 use Rattle.text.specs.Split.{split}
-use Rattle.text.specs.declared.lines.End.{End}
-use Rattle.text.specs.declared.lines.End.TheVariants.{At, Over, Missing}
+use Rattle.text.specs.declared.lines.LineFault.{LineFault}
 use Rattle.text.specs.declared.lines.LineFault.TheVariants.{Long, Unended, Unprintable}
-use Rattle.text.specs.declared.lines.Line.{Line}
-use Rattle.text.specs.declared.lines.Line.TheVariants.{Whole, Broken}
 
 -- A line: the bytes before its newline, and whether it has one.
 pub record TextLine : Type 0 where
@@ -30,14 +28,13 @@ abbrev pub printable_byte : ℕ → Bool
 printable_byte b = leb 32 b && leb b 126
 
 unfoldable pub printable : List ℕ → Bool
-printable [] = true
-printable (b ∷ bs) = printable_byte b && printable bs
+printable bs = list_all printable_byte bs
 
--- What is wrong with a line of which at most so many bytes may stand before the newline, in this order.
-abbrev pub answer_of : ℕ → TextLine → Line
+-- How many bytes a line has; or what is wrong with it, where at most so many may stand before the newline, in this order.
+abbrev pub answer_of : ℕ → TextLine → Result ℕ LineFault
 answer_of most l =
-    cond (ltb most (length l.bytes)) (Broken Long)
-    (cond l.newline (cond (printable l.bytes) (Whole (length l.bytes)) (Broken Unprintable)) (Broken Unended))
+    cond (ltb most (length l.bytes)) (Err Long)
+    (cond l.newline (cond (printable l.bytes) (Ok (length l.bytes)) (Err Unprintable)) (Err Unended))
 
 -- The first line of a text; of an empty text, an empty line without a newline.
 abbrev pub head_line : List (List ℕ) → TextLine
@@ -48,16 +45,16 @@ head_line (p ∷ (q ∷ ps)) = record { bytes = p; newline = true }
 abbrev pub first_line : List ℕ → TextLine
 first_line text = head_line (split 10 text)
 
-abbrev pub line_of : ℕ → List ℕ → Line
+abbrev pub line_of : ℕ → List ℕ → Result ℕ LineFault
 line_of most text = answer_of most (first_line text)
 
 -- A line is whole: at most so many bytes before its newline, a newline, and only bytes 32 to 126.
 abbrev pub whole : ℕ → TextLine → Bool
 whole most l = leb (length l.bytes) most && (l.newline && printable l.bytes)
 
--- Where the first line ends.
-abbrev pub end_of : ℕ → TextLine → End
-end_of most l = cond (ltb most (length l.bytes)) Over (cond l.newline (At (length l.bytes)) Missing)
+-- Where the first line ends, whatever its bytes are.
+abbrev pub end_of : ℕ → TextLine → Result ℕ LineFault
+end_of most l = cond (ltb most (length l.bytes)) (Err Long) (cond l.newline (Ok (length l.bytes)) (Err Unended))
 
-abbrev pub ended : ℕ → List ℕ → End
+abbrev pub ended : ℕ → List ℕ → Result ℕ LineFault
 ended most text = end_of most (first_line text)

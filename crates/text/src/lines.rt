@@ -3,7 +3,7 @@ ghost use Rattle.std.specs.Prelude.{◌≡◌};
 ghost use Rattle.text.specs.Lines.{ended, printable, line_of};
 
 // What is wrong with a line, before its fields are looked at.
-#[derive(Clone, Copy)]
+#[derive(Clone, Copy, PartialEq, Eq, Debug)]
 pub enum LineFault {
     // More bytes before the newline than allowed.
     Long,
@@ -13,93 +13,59 @@ pub enum LineFault {
     Unprintable,
 }
 
-// A line: how many bytes stand before its newline, or its fault.
-#[derive(Clone, Copy)]
-pub enum Line {
-    Whole(usize),
-    Broken(LineFault),
-}
-
-// Where a line ends: at the first newline, unless more than the allowed bytes or no newline come.
-#[derive(Clone, Copy)]
-pub enum End {
-    At(usize),
-    Over,
-    Missing,
-}
-
 // How many bytes stand before the first newline: at most `most`, or the line is too long.
-pub fn find_end(text: &[u8], most: usize) -> End
+#[tactic(auto, using(crate::proofs::LineLaws::end_kit))]
+pub fn find_end(text: &[u8], most: usize) -> Result<usize, LineFault>
     ensures { result ≡ ended most text.now }
 {
-    let mut i = 0;
-    while i < text.len() {
-        if text[i] == 10 {
-            return End::At(i);
+    for (i, b) in text.iter().enumerate() {
+        if *b == b'\n' {
+            return Ok(i);
         }
         if i == most {
-            return End::Over;
+            return Err(LineFault::Long);
         }
-        i += 1;
     }
-    End::Missing
+    Err(LineFault::Unended)
 }
 
 // Are all bytes 32 to 126?
+#[tactic(auto, unfolding(crate::specs::Lines::printable))]
 pub fn printable(bytes: &[u8]) -> bool
     ensures { result ≡ printable bytes.now }
 {
-    let mut i = 0;
-    while i < bytes.len() {
-        if bytes[i] < 32 {
-            return false;
-        }
-        if bytes[i] > 126 {
-            return false;
-        }
-        i += 1;
-    }
-    true
+    bytes.iter().all(|b| (32..=126).contains(b))
 }
 
 // The answer for a first line that has some fault: how it ends, then its bytes.
-fn read_faulty(text: &[u8], most: usize) -> Line
+#[tactic(auto, using(crate::proofs::LineLaws::line_kit))]
+fn read_faulty(text: &[u8], most: usize) -> Result<usize, LineFault>
     ensures { result ≡ line_of most text.now }
 {
-    match find_end(text, most) {
-        End::Over => Line::Broken(LineFault::Long),
-        End::Missing => Line::Broken(LineFault::Unended),
-        End::At(n) => {
-            if printable(&text[..n]) {
-                Line::Whole(n)
-            } else {
-                Line::Broken(LineFault::Unprintable)
-            }
-        }
+    let n = find_end(text, most)?;
+    if printable(&text[..n]) {
+        Ok(n)
+    } else {
+        Err(LineFault::Unprintable)
     }
 }
 
-// The first line of a text: whole if it has at most `most` bytes, a newline, and only bytes 32 to 126. A line without a fault is looked
-// at once.
-pub fn read_line(text: &[u8], most: usize) -> Line
+// The first line of a text, as how many bytes stand before its newline: whole if these are at most `most`, there is a newline, and only
+// bytes 32 to 126. A line without a fault is looked at once.
+#[tactic(auto, using(crate::proofs::LineLaws::once_kit), unfolding(crate::specs::Lines::printable))]
+pub fn read_line(text: &[u8], most: usize) -> Result<usize, LineFault>
     ensures { result ≡ line_of most text.now }
 {
-    let mut i = 0;
-    while i < text.len() {
-        let b = text[i];
-        if b < 32 {
-            if b == 10 {
-                return Line::Whole(i);
-            }
-            return read_faulty(text, most);
+    for (i, &b) in text.iter().enumerate() {
+        if b == b'\n' {
+            return Ok(i);
         }
-        if b > 126 {
+        if b < 32 || b > 126 {
             return read_faulty(text, most);
         }
         if i >= most {
-            return Line::Broken(LineFault::Long);
+            return Err(LineFault::Long);
         }
-        i += 1;
     }
-    Line::Broken(LineFault::Unended)
+    Err(LineFault::Unended)
 }

@@ -1,106 +1,64 @@
-// What is changed in a text. Kinds 0 to 6 are of a pattern, 7 to 12 the first six again, of a log. In the header: 0 a byte is made a bad one,
-// 1 a letter of a name an upper-case one, 2 the byte behind a space a second space. Below it: 3 a bad one, 4 a second space, 5 a digit,
-// a comma or `-` made a letter, 6 a letter of a rule made a lower-case one.
+// What is changed in a text.
+use crate::kinds::Kind;
 use trial::Random;
 
-// The byte is put at an index and at a later one, which is the text's end where there is no second change.
+// The byte is put at an index, and maybe at a later one.
 #[derive(Clone, Copy)]
 pub struct Change {
-    pub kind: u64,
+    pub kind: Kind,
     pub at: usize,
-    pub later: usize,
+    pub later: Option<usize>,
     pub byte: u8,
 }
 
-fn draw_change(kind: u64, text: &[u8], from: Random) -> Change {
-    let place = from.next();
-    let again = place.next();
-    let drawn = again.next();
-    let at = draw_index(kind, text, place);
-    Change {
-        kind,
-        at,
-        later: later_index(kind, text, at, again.below(2)),
-        byte: new_byte(kind, drawn.below(159) as u8),
-    }
-}
-
-// The text with a change drawn, at the front of a buffer.
-pub fn put_changed(kind: u64, text: &[u8], from: Random, changed: &mut [u8]) -> Change {
-    let c = draw_change(kind, text, from);
-    trial::append_bytes(changed, 0, text);
-    trial::put_byte(changed, c.at, c.byte);
-    trial::put_byte(changed, c.later, c.byte);
-    c
-}
-
-fn draw_index(kind: u64, text: &[u8], from: Random) -> usize {
-    let header = trial::find_byte(text, 0, b'\n');
-    if kind % 7 < 3 {
-        return find_round(kind, trial::front(text, header), from);
-    }
-    let below = trial::part(text, header, text.len());
-    header.wrapping_add(find_round(kind, below, from))
-}
-
-// From a place drawn on, or from the start where there is none behind it.
-fn find_round(kind: u64, s: &[u8], from: Random) -> usize {
-    let i = find(kind, s, from.below(s.len() as u64) as usize);
-    if i < s.len() {
-        return i;
-    }
-    find(kind, s, 0)
-}
-
-fn later_index(kind: u64, text: &[u8], at: usize, again: u64) -> usize {
-    if again == 0 {
-        return text.len();
-    }
-    find(kind, text, at.wrapping_add(1))
-}
-
-// The first byte from an index on that this kind changes; the end where there is none.
-fn find(kind: u64, s: &[u8], from: usize) -> usize {
-    let mut i = from;
-    while i < s.len() {
-        if suits(kind, trial::get_byte(s, i.wrapping_sub(1)), s[i]) {
-            return i;
+impl Change {
+    pub fn draw(kind: Kind, text: &[u8], random: &mut Random) -> Change {
+        let at = draw_index(kind, text, random);
+        let later = match random.draw(2) {
+            0 => None,
+            _ => find(kind, text, at.wrapping_add(1)),
+        };
+        let byte = kind.new_byte(random.draw(159) as u8);
+        Change {
+            kind,
+            at,
+            later,
+            byte,
         }
-        i += 1;
     }
-    s.len()
-}
 
-fn suits(kind: u64, before: u8, b: u8) -> bool {
-    match kind % 7 {
-        0 | 3 => b != b'\n',
-        1 => is_between(b, b'a', b'z'),
-        2 | 4 => before == b' ',
-        5 => is_between(b, b',', b'9'),
-        _ => is_between(b, b'A', b'Z'),
+    pub fn make(self, text: &mut [u8]) {
+        self.put(text, self.at);
+        if let Some(later) = self.later {
+            self.put(text, later);
+        }
     }
-}
 
-fn is_between(b: u8, first: u8, last: u8) -> bool {
-    if b < first {
-        return false;
-    }
-    b <= last
-}
-
-fn new_byte(kind: u64, x: u8) -> u8 {
-    match kind % 7 {
-        0 | 3 => bad_byte(x),
-        1 => b'A' + x % 26,
-        2 | 4 => b' ',
-        _ => b'a' + x % 26,
+    fn put(self, text: &mut [u8], i: usize) {
+        if let Some(b) = text.get_mut(i) {
+            *b = self.byte;
+        }
     }
 }
 
-// 13, 127 to 255, or 0 to 9.
-fn bad_byte(x: u8) -> u8 {
-    if x < 20 {
-        return 13;
+fn draw_index(kind: Kind, text: &[u8], random: &mut Random) -> usize {
+    let line = text.iter().position(|b| *b == b'\n').unwrap_or(text.len());
+    let (header, below) = text.split_at(line);
+    if kind.is_in_header() {
+        return find_round(kind, header, random);
     }
-    x.wrapping_add(107)
+    line.wrapping_add(find_round(kind, below, random))
+}
+
+// From a place drawn on, or from the start where there is none behind it; the end where there is none at all.
+fn find_round(kind: Kind, s: &[u8], random: &mut Random) -> usize {
+    let from = random.draw(s.len() as u64) as usize;
+    find(kind, s, from)
+        .or_else(|| find(kind, s, 0))
+        .unwrap_or(s.len())
+}
+
+// The first byte from an index on that this kind changes.
+fn find(kind: Kind, s: &[u8], from: usize) -> Option<usize> {
+    (from..s.len()).find(|i| kind.suits(s, *i))
 }

@@ -3,7 +3,8 @@
 #![tactic(auto)]
 
 mod changes;
+mod kinds;
 mod walk;
 
-pub use changes::{Change, put_changed};
-pub use walk::is_expected;
+pub use changes::Change;
+pub use kinds::{Kind, Text};

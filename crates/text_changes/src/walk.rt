@@ -1,5 +1,6 @@
 // The plain walk: it goes over a text byte by byte up to the first change, and knows only that a newline ends a line and a space a field.
 use crate::changes::Change;
+use crate::kinds::{Kind, Text};
 use answer::Answer;
 
 // Where a byte stands: its line, its place in the line, and where its field starts, all from 1.
@@ -10,66 +11,64 @@ struct Spot {
     field: u16,
 }
 
-// Is this what a reader has to answer for the changed text?
-pub fn is_expected(a: Answer, text: &[u8], c: Change) -> bool {
-    answer::code(a) == answer::code(expected(text, c))
+impl Change {
+    // Is this what a reader has to answer for the changed text? Answers have no `==`: they are compared by their codes.
+    pub fn is_expected(self, a: Answer, of: Text, text: &[u8]) -> bool {
+        a == self.expected(of, text)
+    }
+
+    fn expected(self, of: Text, text: &[u8]) -> Answer {
+        let start = Spot {
+            line: 1,
+            place: 1,
+            field: 1,
+        };
+        let spot = text
+            .iter()
+            .take(self.at)
+            .fold(start, |spot, b| spot.past(*b));
+        answer::refused_in(
+            number_of(of, self.kind),
+            spot.line,
+            byte_of(self.kind, spot),
+        )
+    }
 }
 
-fn expected(text: &[u8], c: Change) -> Answer {
-    let spot = walk(text, c.at);
-    answer::refused_in(number_of(c.kind), spot.line, byte_of(c.kind, spot))
-}
-
-fn number_of(kind: u64) -> u16 {
-    match kind {
-        1 | 2 => 12,
-        6 => 14,
-        8 | 9 => 22,
-        0 | 3 | 4 | 5 => 11,
-        _ => 21,
+fn number_of(of: Text, kind: Kind) -> u16 {
+    match (of, kind) {
+        (Text::Pattern, Kind::UpperCase | Kind::SpaceInHeader) => 12,
+        (Text::Pattern, Kind::LowerCase) => 14,
+        (Text::Pattern, _) => 11,
+        (Text::Log, Kind::UpperCase | Kind::SpaceInHeader) => 22,
+        (Text::Log, _) => 21,
     }
 }
 
 // A bad byte's own place, 0 where the number of fields is wrong, or the place of the field.
-fn byte_of(kind: u64, spot: Spot) -> u16 {
-    match kind % 7 {
-        0 | 3 => spot.place,
-        4 => 0,
+fn byte_of(kind: Kind, spot: Spot) -> u16 {
+    match kind {
+        Kind::BadInHeader | Kind::BadBelow => spot.place,
+        Kind::SpaceBelow => 0,
         _ => spot.field,
     }
 }
 
-fn walk(text: &[u8], at: usize) -> Spot {
-    let mut spot = Spot {
-        line: 1,
-        place: 1,
-        field: 1,
-    };
-    let mut i = 0;
-    while i < at {
-        spot = past(spot, trial::get_byte(text, i));
-        i += 1;
-    }
-    spot
-}
-
-fn past(spot: Spot, b: u8) -> Spot {
-    let place = spot.place.wrapping_add(1);
-    match b {
-        b'\n' => Spot {
-            line: spot.line.wrapping_add(1),
-            place: 1,
-            field: 1,
-        },
-        b' ' => Spot {
-            line: spot.line,
-            place,
-            field: place,
-        },
-        _ => Spot {
-            line: spot.line,
-            place,
-            field: spot.field,
-        },
+impl Spot {
+    fn past(self, b: u8) -> Spot {
+        let place = self.place.wrapping_add(1);
+        match b {
+            b'\n' => Spot {
+                line: self.line.wrapping_add(1),
+                place: 1,
+                field: 1,
+            },
+            b' ' => Spot {
+                place,
+                field: place,
+                ..self
+            },
+            _ => Spot { place, ..self },
+        }
     }
 }

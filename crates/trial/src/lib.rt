@@ -8,7 +8,7 @@ mod files;
 mod random;
 mod text;
 
-pub use cells::{get, get_byte, put, put_byte};
-pub use files::{column, find_byte, front, lent, load, number, part, small_number};
+pub use cells::{get, put};
+pub use files::{column, front, load, number, part};
 pub use random::Random;
 pub use text::{append_byte, append_bytes, append_number, append_repeated};

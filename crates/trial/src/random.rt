@@ -33,4 +33,12 @@ impl Random {
         }
         self.state % n
     }
+
+    // Goes on to the next number, and reduces it below n.
+    pub fn draw(&mut self, n: u64) -> u64
+        ensures { result ≤ n - 1 }
+    {
+        *self = self.next();
+        self.below(n)
+    }
 }

@@ -4,8 +4,9 @@
 // a group of cases that share a buffer or a generator; its function has their names.
 #![tactic(auto)]
 
-use std::io;
 use std::rt::Files;
+use std::{fs, io};
+use trial::column;
 
 mod appended;
 mod cells;
@@ -13,85 +14,51 @@ mod drawn;
 mod files;
 
 fn main(rt: HostRuntime) -> io::Result<()> {
-    let mut file = [0u8; 8192];
-    let n = trial::load(&rt, b"cases.txt", &mut file);
-    try_cases(&rt, &file[..n])
-}
-
-fn try_cases(rt: &(impl Files + Print), file: &[u8]) -> io::Result<()> {
-    let mut at = 0;
-    while at < file.len() {
-        let end = trial::find_byte(file, at, b'\n');
-        try_case(rt, trial::part(file, at, end))?;
-        at = end + 1;
+    let file = fs::read_to_string(&rt, "cases.txt")?;
+    for line in file.lines() {
+        try_case(&rt, line)?;
     }
     Ok(())
 }
 
-fn try_case(rt: &(impl Files + Print), line: &[u8]) -> io::Result<()> {
-    let kind = trial::get_byte(trial::column(line, 1), 0);
-    let what = trial::column(line, 0);
-    let a = trial::column(line, 2);
-    show_case(rt, kind, what, a, trial::column(line, 3))
-}
-
-// The first letter of `read`, `empty`, `write`, `cell` (a byte read), `put` (a byte written); of `load`, `digits`, `marks`, `x` (a script).
-fn show_case(
-    rt: &(impl Files + Print),
-    kind: u8,
-    what: &[u8],
-    a: &[u8],
-    b: &[u8],
-) -> io::Result<()> {
-    match kind {
-        b'r' => cells::show_read(rt, what, a),
-        b'e' => cells::show_empty(rt, what),
-        b'w' => cells::show_write(rt, what, a),
-        b'c' => cells::show_get_byte(rt, what, a),
-        b'p' => cells::show_put_byte(rt, what, a),
-        b'l' => files::show_load(rt, what, a),
-        b'd' => files::show_digits(rt, what, a),
-        b'm' => files::show_marks(rt),
-        b'x' => files::show_script(rt, what, a, b),
-        _ => show_other(rt, kind, what, a, b),
-    }
-}
-
-// The first letter of `single`, `bytes`, `number`, `times`; of `generator`, `first`, `under`.
-fn show_other(rt: &impl Print, kind: u8, what: &[u8], a: &[u8], b: &[u8]) -> io::Result<()> {
-    match kind {
-        b's' => appended::show_single(rt, what, a, b),
-        b'b' => appended::show_run(rt, what, a, b),
-        b'n' => appended::show_number(rt, what, a, b),
-        b't' => appended::show_repeat(rt, what, a),
-        b'g' => drawn::show_seed(rt, what, a),
-        b'f' => drawn::show_first(rt),
-        b'u' => drawn::show_below(rt, what, a),
-        _ => outcome::print_line(rt, b"NO SUCH KIND"),
+fn try_case(rt: &(impl Files + Print + AllocGlobal), line: &str) -> io::Result<()> {
+    let what = column(line, 0);
+    let a = column(line, 2);
+    let b = column(line, 3);
+    match column(line, 1) {
+        "read" => cells::show_get(rt, what, &[10u16, 11, 65535], argument(a) as usize),
+        "empty" => cells::show_get::<u16>(rt, what, &[], 0),
+        "write" => cells::show_write(rt, what, a),
+        "cell" => cells::show_get(rt, what, b"abc", argument(a) as usize),
+        "put" => cells::show_put_byte(rt, what, a),
+        "single" => appended::show_single(rt, what, a, b),
+        "bytes" => appended::show_run(rt, what, a, b),
+        "number" => appended::show_number(rt, what, a, b),
+        "times" => appended::show_repeat(rt, what, a),
+        "generator" => drawn::show_seed(rt, what, a),
+        "first" => drawn::show_first(rt),
+        "under" => drawn::show_below(rt, what, a),
+        "load" => files::show_load(rt, what, a),
+        "digits" => println!(rt; "{what}: {}", trial::number(a.as_bytes())),
+        "marks" => files::show_marks(rt),
+        "x" => files::show_script(rt, what, a, b),
+        _ => println!(rt; "NO SUCH KIND"),
     }
 }
 
 // The whole buffer, and the index that an append answered.
-pub fn show(rt: &impl Print, what: &[u8], buf: &[u8], next: usize) -> io::Result<()> {
-    outcome::print_bytes(rt, what)?;
-    outcome::print_bytes(rt, b": ")?;
-    outcome::print_bytes(rt, buf)?;
-    show_next(rt, next)
+pub fn show(rt: &impl Print, what: &str, buf: &[u8], next: usize) -> io::Result<()> {
+    print!(rt; "{what}: ")?;
+    rt.write_all(buf)?;
+    println!(rt; ", next {next}")
 }
 
-fn show_next(rt: &impl Print, next: usize) -> io::Result<()> {
-    outcome::print_bytes(rt, b", next ")?;
-    outcome::print_number(rt, next as u64)?;
-    outcome::print_line(rt, b"")
-}
-
-// A number, or one of those of more than nine digits by the first letter of `largest`, `modulus`, `before`: the largest, the
-// generator's modulus, the one before that.
-pub fn argument(word: &[u8]) -> u64 {
-    match trial::get_byte(word, 0) {
-        b'l' => 18446744073709551615,
-        b'm' => 2147483647,
-        b'b' => 2147483646,
-        _ => trial::number(word),
+// A number, or one of those of more than nine digits by name: the largest, the generator's modulus, the one before that.
+pub fn argument(word: &str) -> u64 {
+    match word {
+        "largest" => u64::MAX,
+        "modulus" => 2147483647,
+        "before" => 2147483646,
+        _ => word.parse().unwrap_or(0),
     }
 }

@@ -58,6 +58,4 @@ module _ (A : Automaton) (labels here : List ℕ) where
             and_no true = refl
             and_no false = refl
 
-pub ruleset from_kit = (entered_skip, entered_more)
-
-pub ruleset kit = (entered_none, entered_end)
+pub ruleset kit = (entered_none, entered_end, entered_skip, entered_more)

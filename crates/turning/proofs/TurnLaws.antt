@@ -15,8 +15,9 @@ use Rattle.necklace.specs.Automaton.{Automaton}
 use Rattle.necklace.specs.Compute.{some_of}
 use Rattle.log_buffer.specs.Meaning.{steps_in, links_into, log_of}
 use Rattle.log_buffer.proofs.Meaning.{labels_are, preds_are}
-use Rattle.log_links.specs.Links.{Laid, BareIf}
-use Rattle.log_links.proofs.LinkLaws.{label_in}
+use Rattle.layout.specs.Layout.{labels_at}
+use Rattle.lists.specs.Places.{at}
+use Rattle.log_links.specs.Links.{BareIf}
 use Rattle.necklace.specs.Forward.{reached, arrives}
 use Rattle.lanes.specs.Lanes.{work_at, lane_in, Gathered, PutTo, BegunAt}
 use Rattle.turning.specs.Turning.{EnteredTo, Arrived, Turned}
@@ -34,16 +35,19 @@ module _ (log : List ℕ) (A : Automaton) (work : List ℕ) (first x : ℕ) (ins
         ∙ sym (ap (λ (ls : List ℕ). some_below 16 (λ q. some_of (λ w. lane_in work first i w q) ((log_of log).preds x) && reached A ls q r)) (bare.labels e));
   }
 
-  pub arrived : (next : List ℕ) → EnteredTo A (members 16 (get_or log (1 + x) 0)) 16 here next → Arrived (log_of log) A work first x next
-  arrived next d = record {
+  pub arrived : (labels : ℕ) (next : List ℕ) → labels ≡ at log (labels_at x) → EnteredTo A (members 16 labels) 16 here next → Arrived (log_of log) A work first x next
+  arrived labels next e d' = record {
     lanes = λ i r l k.
         d.lanes i r l k
         ∙ some_below_ext 16 (λ q. member i (get_or here q 0) && reached A (members 16 (get_or log (1 + x) 0)) q r)
         (λ q. some_of (λ w. lane_in work first i w q) ((log_of log).preds x) && reached A ((log_of log).labels x) q r)
         (λ q m. ap₂ ◌&&◌ (come i q l m) (ap (λ (ls : List ℕ). reached A ls q r) (sym (labels_are log x inside))));
   }
+    where
+      d : EnteredTo A (members 16 (get_or log (1 + x) 0)) 16 here next
+      d = rw e at d'
 
-pub ruleset arriving_kit = (arrived_bare, arrived, label_in)
+pub ruleset arriving_kit = (arrived_bare, arrived)
 
 -- ---- the turn
 
@@ -73,8 +77,3 @@ turned G A first begin x here old mid new a p b = record {
     go i r l k (no n) =
         ap (member i) (b.others (work_at x r) (λ z. n (omega arith))) ∙ there i r l k
         ∙ sym (ap (λ (c : Bool). (member i begin && c) || arrives G A (lane_in old first i) x r) (ne_eqb r 0 n) ∙ ap (λ (c : Bool). c || arrives G A (lane_in old first i) x r) (and-false (member i begin)))
-
-pub step_small : (log : List ℕ) (x : ℕ) → Laid log → x < steps_in log → x < 1024
-step_small log x laid h = let f = laid.few in omega arith
-
-pub ruleset turn_kit = (turned, step_small)

@@ -1,84 +1,98 @@
 // The second phase: the walk back over the beads, for every step at which the whole pattern holds.
 #![tactic(auto)]
 
-ghost use Rattle.std.specs.Prelude.{◌≡◌, ◌≤◌, length, get_or};
-ghost use Rattle.layout.specs.Layout.{work_length};
+ghost use Rattle.std.specs.Prelude.{◌<◌, ◌≤◌, length};
+ghost use Rattle.layout.specs.Layout.{most_steps, work_length};
 ghost use Rattle.log_buffer.specs.Meaning.{log_of, steps_in};
-ghost use Rattle.pattern_buffer.specs.Meaning.{pattern_of};
-ghost use Rattle.log_links.specs.Links.{LastTo};
-ghost use Rattle.hope.specs.Hope.{Hopes};
-ghost use Rattle.prefix_phase.specs.Marked.{Tried, Marks};
+ghost use Rattle.pattern_buffer.specs.Meaning.{beads_in, pattern_of};
+ghost use Rattle.prefix_phase.specs.Cases.{MarksOf};
 ghost use Rattle.walk_places.specs.Walked.{WalkedBack, Walked};
-ghost use Rattle.walk_turn.specs.Turns.{WalkBy};
+ghost use Rattle.walk_turn.specs.Turns.{TurnIn, AimOf, Picked, Settled};
+
+use prefix_phase::Case;
+use walk_turn::{Opened, Turn, Walk};
+
+// The smallest candidate, from `from` on and below `to`, that serves as the pivot before p: some lane begins there and reaches p. The search stops
+// at the first one that does.
+#[tactic(auto, using(walk_turn::proofs::TurnLaws::seek_kit))]
+fn pick(from: usize, to: usize, p: usize, seeds: &[u16], found: &[u16]) -> Option<usize>
+    requires { (from < to) × (to ≤ most_steps) × (p < most_steps) × (most_steps ≤ length seeds.now) × (most_steps ≤ length found.now) }
+    ensures { Picked seeds.now found.now p from to result }
+{
+    let mut picked = None;
+    for u in from..to {
+        let serves = sets::overlaps(seeds[u], found[p]);
+        if serves {
+            picked = Some(u);
+            break;
+        }
+    }
+    picked
+}
+
+// The rest of a turn: of the candidates the smallest that serves is picked for the step aimed at and put down, and the next turn goes on after
+// that step. Where none is aimed at no step is left to look at.
+fn settle(
+    n: usize,
+    turn: Turn,
+    opened: Opened,
+    seeds: &[u16],
+    found: &[u16],
+    pivots: &mut [u16],
+) -> Turn
+    requires turn_in { (turn.from < opened.to) × TurnIn n turn opened.to }
+    requires aimed { AimOf n turn found.now pivots.old opened.aim }
+    requires in_bounds { (most_steps ≤ length seeds.now) × (most_steps ≤ length found.now) × (9216 ≤ length pivots.old) }
+    ensures { Settled n turn opened seeds.now found.now pivots.old pivots.new result }
+{
+    match opened.aim {
+        Some(aim) => {
+            let picked = pick(turn.from, opened.to, aim.pivot, seeds, found);
+            walk_turn::put_down(turn, aim.step, picked, pivots);
+            walk_turn::next_turn(n, turn, opened.to, aim.step + 1)
+        }
+        None => walk_turn::next_turn(n, turn, opened.to, n),
+    }
+}
 
 // The walk back, in turns: beads downwards (`turn.left` are left), inside them the candidates by sixteens (from `turn.from` on) and the steps
-// (from `turn.step` on, the next that has something to look for); and for that step the loop over the candidates, of which the smallest that
-// serves is picked.
-fn walk(
-    pattern: &[u16],
-    log: &[u16],
-    beads: usize,
-    n: usize,
-    hopes: &[u16],
-    last: &[u16],
-    prefixes: &[u16],
+// (from `turn.step` on, the next that has something to look for). It counts no index: what a turn is of, the one before decides.
+fn walk_turns(
+    walk: &Walk,
     pivots: &mut [u16],
     seeds: &mut [u16],
     found: &mut [u16],
     work: &mut [u16],
 )
-    requires pivots_len { (length pivots.old ≡ 9216) × (length seeds.old ≡ 1024) × (length found.old ≡ 1024) × (length work.old ≡ work_length) }
-    requires walk_by { WalkBy pattern.now log.now n prefixes.now hopes.now last.now }
-    requires beads_value { (beads ≡ get_or pattern.now 1 0) × Walked (log_of log.now) (pattern_of pattern.now) n beads 0 0 0 pivots.old }
-    ensures { WalkedBack (log_of log.now) (pattern_of pattern.now) (steps_in log.now) pivots.new }
+    requires in_bounds { (9216 ≤ length pivots.old) × (most_steps ≤ length seeds.old) × (most_steps ≤ length found.old) × (work_length ≤ length work.old) }
+    requires walked { Walked (log_of walk.now.case.course.log.numbers.now) (pattern_of walk.now.case.course.pattern.now) (steps_in walk.now.case.course.log.numbers.now) (beads_in walk.now.case.course.pattern.now) 0 0 0 pivots.old }
+    ensures { WalkedBack (log_of walk.now.case.course.log.numbers.now) (pattern_of walk.now.case.course.pattern.now) (steps_in walk.now.case.course.log.numbers.now) pivots.new }
 {
-    let mut turn = walk_turn::Turn {
-        left: beads,
+    let n = walk.case.steps();
+    let mut turn = Turn {
+        left: walk.case.beads(),
         from: 0,
         to: 0,
         step: 0,
     };
     while 0 < turn.left {
-        let aim = walk_turn::begin_turn(
-            pattern, log, n, turn, hopes, last, prefixes, pivots, seeds, found, work,
-        );
-        let p = aim.pivot;
-        let end = aim.end;
-        let mut u = turn.from;
-        while u < end {
-            let serves = sets::overlaps(seeds[u], found[p]);
-            if serves {
-                break;
-            }
-            u += 1;
-        }
-        turn = walk_turn::finish_turn(n, turn, aim, u, pivots);
+        let opened = walk.begin_turn(n, turn, pivots, seeds, found, work);
+        turn = settle(n, turn, opened, seeds, found, pivots);
     }
 }
 
 // Puts down the pivots of every step at which the whole pattern holds.
-pub fn walk_back(
-    pattern: &[u16],
-    log: &[u16],
-    hopes: &[u16],
-    last: &[u16],
-    prefixes: &[u16],
-    pivots: &mut [u16],
-    work: &mut [u16],
-)
-    requires tried { Tried pattern.now log.now }
-    requires marks { Marks (log_of log.now) (pattern_of pattern.now) (steps_in log.now) prefixes.now }
-    requires hopes { Hopes pattern.now hopes.now }
-    requires last_to { LastTo log.now (steps_in log.now) last.now }
-    requires in_bounds { (8 ≤ length hopes.now) × (1024 ≤ length last.now) × (1024 ≤ length prefixes.now) × (length pivots.old ≡ 9216) × (length work.old ≡ work_length) }
-    ensures { WalkedBack (log_of log.now) (pattern_of pattern.now) (steps_in log.now) pivots.new }
+pub fn walk_back(case: &Case, prefixes: &[u16], pivots: &mut [u16], work: &mut [u16])
+    requires marks { MarksOf case.now prefixes.now }
+    requires in_bounds { (most_steps ≤ length prefixes.now) × (9216 ≤ length pivots.old) × (work_length ≤ length work.old) }
+    ensures { WalkedBack (log_of case.now.course.log.numbers.now) (pattern_of case.now.course.pattern.now) (steps_in case.now.course.log.numbers.now) pivots.new }
 {
     let mut seeds = [0u16; layout::MOST_STEPS];
     let mut found = [0u16; layout::MOST_STEPS];
-    let beads = lists::wide(pattern[1]);
-    let n = lists::wide(log[0]);
-    walk_places::start_walk(pattern, log, beads, n, prefixes, pivots);
-    walk(
-        pattern, log, beads, n, hopes, last, prefixes, pivots, &mut seeds, &mut found, work,
-    );
+    walk_places::start_walk(case, prefixes, pivots);
+    let walk = Walk {
+        case: *case,
+        prefixes,
+    };
+    walk_turns(&walk, pivots, &mut seeds, &mut found, work);
 }

@@ -7,9 +7,8 @@ use mathlib.Core.List.{List}
 use native.Mathlib.Decide.{ℕ_discrete}
 use native.Mathlib.Omega.{arith}
 use borrow.Author.Tests.{lt-ltb, le-ltb}
-use lib.ListN.{length, get_or, set}
+use lib.ListN.{get_or}
 use Rattle.lists.specs.Filled.{Filled}
-use Rattle.lists.proofs.FilledLaws.{filled_more}
 use Rattle.sets.specs.Sets.{member}
 use Rattle.necklace.specs.Compute.{holds?}
 use Rattle.necklace.proofs.RowMeaning.{prefixes_member}
@@ -39,10 +38,6 @@ module _ (beads n : ℕ) (sets : List ℕ) (i : ℕ) where
 
 pub ruleset place_kit = (place_whole, place_fails, place_last)
 
-pub places_more : (beads n : ℕ) (sets : List ℕ) (i v places : ℕ) (l : List ℕ) → Filled (first_place beads n sets) i l → i < places → places ≡ 1024 * beads + n
-    → beads ≤ 8 → n ≤ 1024 → 9216 ≤ length l → v ≡ first_place beads n sets i → Filled (first_place beads n sets) (i + 1) (set l i v)
-places_more beads n sets i v places l d h e b f long u = filled_more (first_place beads n sets) i v l d (omega arith) u
-
 module _ (pattern log : List ℕ) (t : Tried pattern log) where
   pub tried_some : (beads : ℕ) → beads ≡ get_or pattern 1 0 → 1 ≤ beads
   tried_some beads b = let s = (passes_out pattern t.pattern_passes).some_bead in omega arith
@@ -54,7 +49,7 @@ module _ (pattern log : List ℕ) (t : Tried pattern log) where
   tried_steps n e = let f = (lies pattern log t).few in omega arith
 
 -- nothing is looked at yet
-pub walk_begun : (pattern log sets : List ℕ) (beads n : ℕ) (pivots : List ℕ) → Tried pattern log → Marks (log_of log) (pattern_of pattern) (steps_in log) sets
+walk_begun : (pattern log sets : List ℕ) (beads n : ℕ) (pivots : List ℕ) → Tried pattern log → Marks (log_of log) (pattern_of pattern) (steps_in log) sets
     → beads ≡ get_or pattern 1 0 → n ≡ get_or log 0 0 → Filled (first_place beads n sets) (1024 * beads + n) pivots
     → Walked (log_of log) (pattern_of pattern) n beads 0 0 0 pivots
 unfolding first_place sought pattern_of
@@ -88,4 +83,9 @@ walk_begun pattern log sets beads n pivots t m eb en d = record { last = last; p
         d.number (1024 * j + v) (omega arith)
         ∙ rw (q, r, none j v (omega arith) (ℕ_discrete (suc j) beads), lt-ltb j beads (omega arith), le-ltb (pivot_of (log_of log) (pattern_of pattern) j v) 0 (omega arith), whole) refl
 
-pub ruleset begin_kit = (tried_some, tried_beads, tried_steps, walk_begun)
+pub walk_begins : (pattern log sets : List ℕ) (beads n : ℕ) (pivots : List ℕ) → Tried pattern log → Marks (log_of log) (pattern_of pattern) (steps_in log) sets
+    → beads ≡ beads_in pattern → n ≡ steps_in log → Filled (first_place beads n sets) (1024 * beads + n) pivots
+    → Walked (log_of log) (pattern_of pattern) (steps_in log) (beads_in pattern) 0 0 0 pivots
+walk_begins pattern log sets beads n pivots t m eb en d = rw (eb, en) at (walk_begun pattern log sets beads n pivots t m eb en d)
+
+pub ruleset begin_kit = (tried_some, tried_beads, tried_steps, walk_begins)

@@ -1,42 +1,39 @@
 -- The steps that still search for their pivot, found one after the other.
 -- Assumes nothing.
 use Prim.Native.Nat.{ℕ, ◌+◌, ◌-◌, ◌*◌, ◌≤◌, ◌<◌}
-use mathlib.Core.Path.{◌≡◌, refl, sym, ap, ◌∙◌}
+use mathlib.Core.Path.{◌≡◌, refl, sym, ap, ◌∙◌, subst}
 use mathlib.Core.Bool.{Bool, true, false, not}
-use mathlib.Core.List.{List}
+use mathlib.Core.List.{List, reverse}
 use native.Mathlib.Decide.{ℕ_discrete}
 use native.Mathlib.Omega.{arith}
-use borrow.Author.Tests.{eqb-true}
+use borrow.Author.Tests.{eqb-true, eq-eqb}
 use lib.Dec.{eqb}
-use lib.ListN.{get_or}
+use lib.ListN.{length, get_or, take, drop}
+use Rattle.std.specs.List.{list_all}
 use Rattle.sets.proofs.Truth.{false_no}
+use Rattle.marking.proofs.AddLaws.{reversed_all}
+use Rattle.std.specs.Prelude.{Option, Some, None}
 use Rattle.rows.specs.Rows.{pivot_at}
-use Rattle.walk_places.specs.Search.{NoneSearch, LastsIn, LastAt, ServedAt, NextStep}
+use Rattle.walk_places.specs.Search.{NoneSearch, LastsIn, LastAt, ServedAt, NoneLook, NextAt, NextStep}
+
+some_is : {x y : ℕ} → Some x ≡ Some y → x ≡ y
+some_is e = cc
+
+some_none : {x : ℕ} → ◌≡◌ {A = Option ℕ} (Some x) None → ⊥
+some_none e = cc
 
 -- ---- does no step search any more?
 
--- The steps from v on do not.
-pub record NoneFrom (k v n : ℕ) (pivots : List ℕ) : Type 0 where
-  pub none : (w : ℕ) → v ≤ w → w < n → get_or pivots (pivot_at k w) 0 ≡ n → ⊥
-
-pub none_first : (k n : ℕ) (pivots : List ℕ) → NoneFrom k n n pivots
-none_first k n pivots = record { none = λ w h l e. absurd (omega arith) }
-
-module _ (k from n v : ℕ) (pivots : List ℕ) (inv : NoneFrom k v n pivots) where
-  pub none_lacks : NoneSearch k from n pivots false
-  none_lacks = record { found = λ e. let z : ◌≡◌ {A = ℕ} 0 1 = cc in absurd (omega arith) }
-
-  pub none_more : (place : ℕ) → from < v → place ≡ get_or pivots (1024 * k + (v - 1)) 0 → (place ≡ n → ⊥) → NoneFrom k (v - 1) n pivots
-  none_more place h e ne = record { none = λ w a l z. go w a l z (ℕ_discrete w (v - 1)) }
-    where
-      go : (w : ℕ) → v - 1 ≤ w → w < n → get_or pivots (pivot_at k w) 0 ≡ n → Dec (w ≡ v - 1) → ⊥
-      go w a l z (yes q) = ne (e ∙ ap (λ (x : ℕ). get_or pivots (pivot_at k x) 0) (sym q) ∙ z)
-      go w a l z (no q) = inv.none w (omega arith) l z
-
-  pub none_all : v ≤ from → NoneSearch k from n pivots true
-  none_all h = record { found = λ e w a l z. inv.none w (omega arith) l z }
-
-pub ruleset none_kit = (none_first, none_lacks, none_more, none_all)
+pub none_have : (k from n : ℕ) (pivots : List ℕ) (r : Bool)
+    → r ≡ list_all (λ x. not (eqb x n)) (reverse (take (1024 * k + n - (1024 * k + from)) (drop (1024 * k + from) pivots)))
+    → (from ≤ n) × (1024 * k + n ≤ length pivots) → NoneSearch k from n pivots r
+none_have k from n pivots r e inside = record {
+  found = λ y v h l z.
+      let t = reversed_all (λ x. not (eqb x n)) (1024 * k + from) (1024 * k + n) pivots (omega arith) (sym e ∙ y) (pivot_at k v) (omega arith) (omega arith) in
+      let f : eqb (get_or pivots (pivot_at k v) 0) n ≡ true = eq-eqb (get_or pivots (pivot_at k v) 0) n z in
+      let g : false ≡ true = sym (ap not f) ∙ t in
+      cc;
+}
 
 -- ---- the next step that has something to look for
 
@@ -58,27 +55,25 @@ module _ (left n : ℕ) (found pivots : List ℕ) where
     pub served_none : (place ≡ n → ⊥) → ServedAt left n found pivots v false
     served_none ne = record { no = λ e s. absurd (ne (ep ∙ s)); yes = λ e. absurd (false_no true (sym e) tt) }
 
-  -- so far none
-  pub record NoneTo (v w : ℕ) : Type 0 where
-    pub low : v ≤ w
-    pub none : (x : ℕ) → v ≤ x → x < w → get_or pivots (pivot_at (left - 1) x) 0 ≡ n → ◌≡◌ {A = ℕ} (get_or found (get_or pivots (pivot_at left x) 0) 0) 0
+  pub to_first : (v : ℕ) → NoneLook left n found pivots v v
+  to_first v = record { none = λ x a b. absurd (omega arith) }
 
-  pub to_first : (v : ℕ) → NoneTo v v
-  to_first v = record { low = omega arith; none = λ x a b. absurd (omega arith) }
-
-  module _ (v w : ℕ) (t : NoneTo v w) where
-    pub to_more : (r : Bool) → ServedAt left n found pivots w r → r ≡ false → NoneTo v (w + 1)
-    to_more r s e = record { low = let l = t.low in omega arith; none = λ x a b. go x a b (ℕ_discrete x w) }
+  module _ (v w : ℕ) (t : NoneLook left n found pivots v w) where
+    pub to_more : (r : Bool) → ServedAt left n found pivots w r → r ≡ false → NoneLook left n found pivots v (w + 1)
+    to_more r s e = record { none = λ x a b. go x a b (ℕ_discrete x w) }
       where
         go : (x : ℕ) → v ≤ x → x < w + 1 → Dec (x ≡ w) → get_or pivots (pivot_at (left - 1) x) 0 ≡ n → get_or found (get_or pivots (pivot_at left x) 0) 0 ≡ 0
         go x a b (yes z) = rw z (s.no e)
         go x a b (no z) = t.none x a (omega arith)
 
-    pub to_found : (r : Bool) → ServedAt left n found pivots w r → r ≡ true → w < n → NextStep left n found pivots v w
-    to_found r s e l = record { low = t.low; most = omega arith; none = t.none; search = λ h. s.yes e }
+    pub to_found : (r : Bool) → ServedAt left n found pivots w r → r ≡ true → v ≤ w → w < n → NextStep left n found pivots v (Some w)
+    to_found r s e low l = record {
+      some = λ x z. subst (NextAt left n found pivots v) (some_is z) (record { low = low; inside = l; before = t; search = s.yes e });
+      none = λ z. absurd (some_none z);
+    }
 
-    pub to_end : w ≤ n → n ≤ w → NextStep left n found pivots v w
-    to_end a b = record { low = t.low; most = a; none = t.none; search = λ h. absurd (omega arith) }
+    pub to_end : n ≤ w → NextStep left n found pivots v None
+    to_end a = record { some = λ x z. absurd (some_none (sym z)); none = λ z. record { none = λ x h l. t.none x h (omega arith) } }
 
 pub ruleset served_kit = (served_some, served_none)
 

@@ -308,13 +308,6 @@ module _ (G : Dag) (P : Pattern) (n : ℕ) where
         (walked_skip from to v a b (omega arith) c pivots w (λ z u f g. none v (omega arith) (omega arith) w z u f g))
         (λ x f g. none x (omega arith) (omega arith)))
 
-    -- past the last step it does not matter which is next
-    pub walked_past : (from to step : ℕ) (pivots : List ℕ) → n ≤ step → Walked G P n (suc k) from to step pivots → Walked G P n (suc k) from to (step + 1) pivots
-    walked_past from to step pivots h w =
-        turned from to step from to (step + 1) pivots w
-        (λ v l. ap (λ (u : ℕ). sought G P n k u v)
-        (looked_past n (suc k) from to step k v refl (omega arith) ∙ sym (looked_past n (suc k) from to (step + 1) k v refl (omega arith))))
-
   -- after all turns no bead is left
   pub walked_done : (from to step : ℕ) (pivots : List ℕ) → Walked G P n 0 from to step pivots → WalkedBack G P n pivots
   unfolding pivot_of

@@ -1,5 +1,5 @@
 -- Which vertices still search for their pivot, by what stands at their places.
-use Rattle.std.specs.Prelude.{ℕ, ◌-◌, ◌≤◌, ◌<◌, ◌≡◌, Bool, true, false, List, get_or}
+use Rattle.std.specs.Prelude.{ℕ, ◌-◌, ◌≤◌, ◌<◌, ◌≡◌, Bool, true, false, List, get_or, Option, Some, None}
 use Rattle.rows.specs.Rows.{pivot_at}
 
 -- If so, no vertex from `from` on searches for its pivot.
@@ -20,9 +20,18 @@ pub record ServedAt (left n : ℕ) (found pivots : List ℕ) (v : ℕ) (r : Bool
   pub no : r ≡ false → get_or pivots (pivot_at (left - 1) v) 0 ≡ n → ◌≡◌ {A = ℕ} (get_or found (get_or pivots (pivot_at left v) 0) 0) 0
   pub yes : r ≡ true → get_or pivots (pivot_at (left - 1) v) 0 ≡ n
 
--- The vertices from v on and below r have nothing to look for, and r, if it is one, searches.
-pub record NextStep (left n : ℕ) (found pivots : List ℕ) (v r : ℕ) : Type 0 where
-  pub low : v ≤ r
-  pub most : r ≤ n
-  pub none : (w : ℕ) → v ≤ w → w < r → get_or pivots (pivot_at (left - 1) w) 0 ≡ n → ◌≡◌ {A = ℕ} (get_or found (get_or pivots (pivot_at left w) 0) 0) 0
-  pub search : r < n → get_or pivots (pivot_at (left - 1) r) 0 ≡ n
+-- The vertices from v on and below w have nothing to look for.
+pub record NoneLook (left n : ℕ) (found pivots : List ℕ) (v w : ℕ) : Type 0 where
+  pub none : (x : ℕ) → v ≤ x → x < w → get_or pivots (pivot_at (left - 1) x) 0 ≡ n → ◌≡◌ {A = ℕ} (get_or found (get_or pivots (pivot_at left x) 0) 0) 0
+
+-- The vertex w is one from v on that searches, and those before it have nothing to look for.
+pub record NextAt (left n : ℕ) (found pivots : List ℕ) (v w : ℕ) : Type 0 where
+  pub low : v ≤ w
+  pub inside : w < n
+  pub before : NoneLook left n found pivots v w
+  pub search : get_or pivots (pivot_at (left - 1) w) 0 ≡ n
+
+-- The next vertex from v on that has something to look for; where there is none, all of them have nothing.
+pub record NextStep (left n : ℕ) (found pivots : List ℕ) (v : ℕ) (r : Option ℕ) : Type 0 where
+  pub some : (w : ℕ) → r ≡ Some w → NextAt left n found pivots v w
+  pub none : r ≡ None → NoneLook left n found pivots v n

@@ -1,10 +1,10 @@
 -- A turn of the walk back: its candidates, the search of its step, and the turn after it.
 -- Assumes nothing.
-use Prim.Native.Nat.{ℕ, zero, suc, ◌+◌, ◌-◌, ◌*◌, ◌^◌, ◌≤◌, ◌<◌}
+use Prim.Native.Nat.{ℕ, zero, suc, ◌+◌, ◌-◌, ◌*◌, ◌≤◌, ◌<◌}
 use mathlib.Core.Path.{◌≡◌, refl, sym, ap, ◌∙◌, subst}
 use mathlib.Core.Bool.{Bool, true, false, ◌&&◌}
 use mathlib.Core.List.{List}
-use native.Mathlib.Decide.{ℕ_discrete, dec_lt}
+use native.Mathlib.Decide.{ℕ_discrete}
 use native.Mathlib.Nat.{suc-mul, mul-le-mul_right}
 use native.Mathlib.Omega.{arith}
 use lib.ListN.{length, get_or, set}
@@ -21,26 +21,17 @@ use Rattle.pattern_buffer.specs.Meaning.{beads_in, pattern_of}
 use Rattle.rows.specs.Rows.{pivot_at}
 use Rattle.starts.specs.Starts.{prefix_at, Earlier}
 use Rattle.serving.specs.Serving.{Asked, Served, ServedIf}
-use Rattle.prefix_phase.specs.Marked.{Marks}
+use Rattle.prefix_phase.specs.Marked.{Tried, Marks}
+use Rattle.starts.specs.declared.Lanes.TheVariants.{Own}
 use Rattle.prefix_phase.proofs.MarkLaws.{pass_of}
 use Rattle.walk_places.specs.Walked.{sought, Walked}
-use Rattle.walk_places.specs.Search.{NoneSearch, LastsIn, LastAt, NextStep}
-use Rattle.walk_places.proofs.WalkLaws.{looked_rest, walked_to, walked_on, walked_down, own_place, next_small, walked_skip, walked_put, walked_along, walked_past}
+use Rattle.walk_places.specs.Search.{NoneSearch, LastsIn, LastAt, NoneLook, NextStep}
+use Rattle.std.specs.Prelude.{Option, Some, None}
+use Rattle.walk_places.proofs.WalkLaws.{looked_rest, walked_to, walked_on, walked_down, own_place, next_small, walked_skip, walked_put, walked_along}
 use Rattle.walk_turn.specs.declared.Turn.{Turn}
 use Rattle.walk_turn.specs.declared.Aim.{Aim}
-use Rattle.walk_turn.specs.Turns.{
-  TurnIn,
-  Due,
-  Walking,
-  TurnReady,
-  AimOf,
-  Begun,
-  NoneServe,
-  Stopped,
-  PutDown,
-  turns_left,
-  Next,
-}
+use Rattle.walk_turn.specs.declared.Opened.{Opened}
+use Rattle.walk_turn.specs.Turns.{TurnIn, Due, Walking, TurnReady, AimAt, AimOf, Begun, NoneServe, FirstServes, Picked, PutDown, turns_left, Next, Settled}
 
 count_is : (pattern : List ℕ) → (pattern_of pattern).count ≡ beads_in pattern
 unfolding pattern_of
@@ -65,7 +56,7 @@ module _ (G : Dag) (P : Pattern) (n left from to step : ℕ) (pivots : List ℕ)
   by_left : Walked G P n (suc (left - 1)) from to step pivots → Walked G P n left from to step pivots
   by_left w = subst (λ (l : ℕ). Walked G P n l from to step pivots) (last_left left h) w
 
-module _ (pattern log : List ℕ) (n : ℕ) (turn : Turn) (sets hopes last seeds found pivots : List ℕ) (d : Due pattern log n turn sets hopes last seeds found pivots) where
+module _ (pattern log : List ℕ) (n : ℕ) (turn : Turn) (seeds found pivots : List ℕ) (d : Due pattern log n turn seeds found pivots) where
   w : Walking pattern log n turn seeds found pivots
   w = d.walking
 
@@ -74,18 +65,6 @@ module _ (pattern log : List ℕ) (n : ℕ) (turn : Turn) (sets hopes last seeds
 
   bead : turn.left - 1 < (pattern_of pattern).count
   bead = let b = w.beads in let s = h in omega arith
-
-  pub open_hopes : 8 ≤ length hopes
-  open_hopes = d.by.hopes_long
-
-  pub open_far : 1024 ≤ length last
-  open_far = d.by.last_long
-
-  pub open_sets : 1024 ≤ length sets
-  open_sets = d.by.sets_long
-
-  pub open_some : 1 ≤ turn.left
-  open_some = d.some
 
   pub open_few : n ≤ 1024
   open_few = (w.turn_in h).few
@@ -96,15 +75,14 @@ module _ (pattern log : List ℕ) (n : ℕ) (turn : Turn) (sets hopes last seeds
   pub open_begin : turn.from ≤ n
   open_begin = let s = (w.turn_in h).start in omega arith
 
-  pub open_asked : Asked pattern log n (turn.left - 1) turn.from sets hopes last
-  open_asked = record {
-    pass = pass_of pattern log d.by.tried (turn.left - 1) (let c = count_is pattern in let b = bead in omega arith);
+  pub open_asked : (sets : List ℕ) → Tried pattern log → Marks (log_of log) (pattern_of pattern) (steps_in log) sets
+      → Asked pattern log (steps_in log) (turn.left - 1) turn.from sets
+  open_asked sets t m = record {
+    pass = pass_of pattern log t (turn.left - 1) (let c = count_is pattern in let b = bead in omega arith);
     bead = let c = count_is pattern in let b = bead in omega arith;
-    steps_are = d.by.steps_are;
-    begin = (w.turn_in h).start;
-    earlier = earlier_marked (log_of log) (pattern_of pattern) (steps_in log) sets d.by.marks (turn.left - 1) (let b = bead in omega arith);
-    hopeful = d.by.hopeful;
-    far = d.by.far;
+    steps_are = refl;
+    begin = let s = (w.turn_in h).start in let e = d.steps_are in omega arith;
+    earlier = earlier_marked (log_of log) (pattern_of pattern) (steps_in log) sets m (turn.left - 1) (let b = bead in omega arith);
   }
 
   -- past its first step it stays as it is
@@ -152,8 +130,11 @@ module _ (pattern log : List ℕ) (n : ℕ) (turn : Turn) (sets hopes last seeds
     pub open_done : (b : Bool) → NoneSearch (turn.left - 1) turn.from n pivots b → b ≡ true → TurnReady pattern log n turn n seeds' found' pivots
     open_done b d e = opened n (w.turn_in h).start (omega arith) (λ v a l z. absurd (d.found e v a l z))
 
-    pub open_made : (r : ℕ) → ServedIf 1 pattern log n (turn.left - 1) turn.from r seeds' found' → TurnReady pattern log n turn r seeds' found' pivots
-    open_made r i = let s = i.each refl in opened r s.some s.inside (λ v a l z. s)
+    pub open_made : (r : ℕ) → ServedIf Own pattern log (steps_in log) (turn.left - 1) turn.from r seeds' found' → TurnReady pattern log n turn r seeds' found' pivots
+    open_made r i =
+        let s : Served pattern log n (turn.left - 1) turn.from r seeds' found' =
+        subst (λ (m : ℕ). Served pattern log m (turn.left - 1) turn.from r seeds' found') (sym d.steps_are) (i.each refl) in
+        opened r s.some s.inside (λ v a l z. s)
 
   pub open_lasts : LastsIn turn.left n pivots
   open_lasts = record {
@@ -166,6 +147,18 @@ module _ (pattern log : List ℕ) (n : ℕ) (turn : Turn) (sets hopes last seeds
   }
 
 -- ---- what is aimed at
+
+aim_is : {x y : Aim} → Some x ≡ Some y → x ≡ y
+aim_is e = cc
+
+aim_none_is : {x : Aim} → ◌≡◌ {A = Option Aim} (Some x) None → ⊥
+aim_none_is e = cc
+
+pub number_is : {x y : ℕ} → Some x ≡ Some y → x ≡ y
+number_is e = cc
+
+pub number_none : {x : ℕ} → ◌≡◌ {A = Option ℕ} (Some x) None → ⊥
+number_none e = cc
 
 module _ (n : ℕ) (turn : Turn) (to : ℕ) (i : TurnIn n turn to) where
   pub in_some : 1 ≤ turn.left
@@ -180,40 +173,31 @@ module _ (n : ℕ) (turn : Turn) (to : ℕ) (i : TurnIn n turn to) where
   pub in_step : turn.step ≤ n
   in_step = let a = i.inside in omega arith
 
-  module _ (found pivots : List ℕ) (step : ℕ) (next : NextStep turn.left n found pivots turn.step step) where
-    pub aim_some : turn.from < to → (p : ℕ) → step < n → LastAt turn.left pivots step p
-        → AimOf n turn found pivots (record { step = step; pivot = p; end = to; to = to })
-    aim_some more p h l = record {
-      next = next;
-      low = omega arith;
-      most = omega arith;
-      inside = l.small;
-      look = λ z. (h, l.is, refl);
-      none = λ l. absurd (omega arith);
-    }
+pub aim_some : (n : ℕ) (turn : Turn) (found pivots : List ℕ) (r : Option ℕ) (step p : ℕ) → NextStep turn.left n found pivots turn.step r → r ≡ Some step
+    → LastAt turn.left pivots step p → AimOf n turn found pivots (Some (record { step = step; pivot = p }))
+aim_some n turn found pivots r step p x e l = record {
+  some = λ a z. subst (AimAt n turn found pivots) (aim_is z) (record { next = x.some step e; pivot = l.is; inside = l.small });
+  none = λ z. absurd (aim_none_is z);
+}
 
-    pub aim_none : n ≤ step → AimOf n turn found pivots (record { step = step; pivot = 0; end = turn.from; to = to })
-    aim_none h = record {
-      next = next;
-      low = omega arith;
-      most = i.up;
-      inside = omega arith;
-      look = λ l. absurd (omega arith);
-      none = λ l. h;
-    }
+pub aim_none : (n : ℕ) (turn : Turn) (found pivots : List ℕ) (r : Option ℕ) → NextStep turn.left n found pivots turn.step r → r ≡ None → AimOf n turn found pivots None
+aim_none n turn found pivots r x e = record { some = λ a z. absurd (aim_none_is (sym z)); none = λ z. x.none e }
 
-pub aim_small : (left n : ℕ) (found pivots : List ℕ) (v step : ℕ) → n ≤ 1024 → NextStep left n found pivots v step → step < n → step < 1024
-aim_small left n found pivots v step f x h = omega arith
+pub aim_inside : (left n : ℕ) (found pivots : List ℕ) (v : ℕ) (r : Option ℕ) (step : ℕ) → NextStep left n found pivots v r → r ≡ Some step → step < n
+aim_inside left n found pivots v r step x e = (x.some step e).inside
 
-pub ruleset aim_kit = (in_some, in_place, in_few, in_step, aim_some, aim_none, aim_small)
+pub ruleset aim_kit = (in_some, in_place, in_few, in_step, aim_some, aim_none, aim_inside)
 
 -- ---- its place
 
-pub put_some : (turn : Turn) (aim : Aim) (u : ℕ) (old : List ℕ) → u < aim.end → PutDown turn aim u old (set old (1024 * (turn.left - 1) + aim.step) u)
-put_some turn aim u old h = record { some = λ l. refl; none = λ l. absurd (omega arith) }
+pub put_some : (turn : Turn) (step u : ℕ) (picked : Option ℕ) (old : List ℕ) → picked ≡ Some u → PutDown turn step picked old (set old (1024 * (turn.left - 1) + step) u)
+put_some turn step u picked old e = record {
+  some = λ w z. ap (set old (1024 * (turn.left - 1) + step)) (number_is (sym e ∙ z));
+  none = λ z. absurd (number_none (sym e ∙ z));
+}
 
-pub put_none : (turn : Turn) (aim : Aim) (u : ℕ) (old : List ℕ) → aim.end ≤ u → PutDown turn aim u old old
-put_none turn aim u old h = record { some = λ l. absurd (omega arith); none = λ l. refl }
+pub put_none : (turn : Turn) (step : ℕ) (picked : Option ℕ) (old : List ℕ) → picked ≡ None → PutDown turn step picked old old
+put_none turn step picked old e = record { some = λ w z. absurd (number_none (sym z ∙ e)); none = λ z. refl }
 
 pub ruleset put_kit = (put_some, put_none)
 
@@ -248,12 +232,6 @@ module _ (pattern log : List ℕ) (n : ℕ) (turn : Turn) (to : ℕ) (seeds foun
   pub ready_in : TurnIn n turn to
   ready_in = r.turn_in
 
-  pub ready_more : turn.from < to
-  ready_more = r.more
-
-  pub ready_most : to ≤ 1024
-  ready_most = let a = r.turn_in.most in let b = r.turn_in.few in omega arith
-
   -- the search of a vertex that is reached in the turn
   module _ (v : ℕ) (low : turn.from ≤ v) (inside : v < n) (w : Walked G P n (suc k) turn.from to v pivots) where
     last_in : get_or pivots (pivot_at (suc k) v) 0 < n
@@ -278,97 +256,86 @@ module _ (pattern log : List ℕ) (n : ℕ) (turn : Turn) (to : ℕ) (seeds foun
     serves_none z e u a b =
         sym (serves_is e u (get_or pivots (pivot_at turn.left v) 0) refl a b) ∙ none_overlaps (get_or seeds u 0) (get_or found (get_or pivots (pivot_at turn.left v) 0) 0) z
 
-  module _ (aim : Aim) (to_is : aim.to ≡ to) (a : AimOf n turn found pivots aim) (u : ℕ) (none_serve : NoneServe seeds found aim.pivot turn.from u)
-      (stopped : Stopped seeds found aim.pivot turn.from aim.end u) (new : List ℕ) (down : PutDown turn aim u pivots new) (long : 9216 ≤ length pivots) where
-    -- up to the step aimed at no one has something to look for
-    along : Walked G P n (suc k) turn.from to aim.step pivots
-    along =
-        let l = a.next.low in
-        let m = a.next.most in
-        let e : turn.step + (aim.step - turn.step) ≡ aim.step = omega arith in
-        subst (λ (x : ℕ). Walked G P n (suc k) turn.from to x pivots) e
-        (walked_along G P n k bead_in turn.from to (aim.step - turn.step) turn.step r.turn_in.up r.turn_in.most r.turn_in.few (omega arith) pivots stands
-        (λ w f g s z. let b = r.turn_in.low in serves_none w (omega arith) (omega arith) s (a.next.none w f (omega arith) z) z))
+  -- up to a step before which no one has something to look for
+  along : (step : ℕ) → turn.step ≤ step → step ≤ n → NoneLook turn.left n found pivots turn.step step → Walked G P n (suc k) turn.from to step pivots
+  along step l m none =
+      let e : turn.step + (step - turn.step) ≡ step = omega arith in
+      subst (λ (x : ℕ). Walked G P n (suc k) turn.from to x pivots) e
+      (walked_along G P n k bead_in turn.from to (step - turn.step) turn.step r.turn_in.up r.turn_in.most r.turn_in.few (omega arith) pivots stands
+      (λ w f g s z. let b = r.turn_in.low in serves_none w (omega arith) (omega arith) s (none.none w f (omega arith) z) z))
+
+  -- no step is aimed at
+  passed_all : NoneLook turn.left n found pivots turn.step n → Walked G P n turn.left turn.from to n pivots
+  passed_all none =
+      by_left G P n turn.left turn.from to n pivots r.turn_in.some (along n (let a = r.turn_in.inside in omega arith) (omega arith) none)
+
+  -- a step is aimed at
+  module _ (aim : Aim) (a : AimAt n turn found pivots aim) (picked : Option ℕ) (pick : Picked seeds found aim.pivot turn.from to picked) (new : List ℕ)
+      (down : PutDown turn aim.step picked pivots new) (long : 9216 ≤ length pivots) where
+    stands_at : Walked G P n (suc k) turn.from to aim.step pivots
+    stands_at = along aim.step a.next.low (let i = a.next.inside in omega arith) a.next.before
+
+    low : turn.from ≤ aim.step
+    low = let b = r.turn_in.low in let c = a.next.low in omega arith
 
     passed : Walked G P n turn.left turn.from to (aim.step + 1) new
-    passed = by_left G P n turn.left turn.from to (aim.step + 1) new r.turn_in.some (go (dec_lt turn.from aim.end) (dec_lt u aim.end))
+    passed = by_left G P n turn.left turn.from to (aim.step + 1) new r.turn_in.some (go picked refl)
       where
-        kept : aim.end ≤ u → Walked G P n (suc k) turn.from to (aim.step + 1) pivots → Walked G P n (suc k) turn.from to (aim.step + 1) new
-        kept h w = subst (λ (l : List ℕ). Walked G P n (suc k) turn.from to (aim.step + 1) l) (sym (down.none h)) w
-
-        low : turn.from ≤ aim.step
-        low = let b = r.turn_in.low in let c = a.next.low in omega arith
-
-        go : Dec (turn.from < aim.end) → Dec (u < aim.end) → Walked G P n (suc k) turn.from to (aim.step + 1) new
-        go (no h) d =
-            let b = stopped.low in
-            kept (omega arith) (walked_past G P n k bead_in turn.from to aim.step pivots (a.none (omega arith)) along)
-        go (yes h) (yes l) =
-            let b = a.look h in
-            let c = b.2 in
-            let e = a.next.search b.0 in
-            let f = b.0 in
-            subst (λ (x : List ℕ). Walked G P n (suc k) turn.from to (aim.step + 1) x) (sym (down.some l))
-            (walked_put G P n k bead_in turn.from to aim.step r.turn_in.up r.turn_in.most b.0 r.turn_in.few pivots along u e stopped.low (omega arith)
-            (sym (serves_is aim.step low b.0 along e u aim.pivot b.1 stopped.low (omega arith)) ∙ stopped.serves l)
-            (λ w x y. sym (serves_is aim.step low b.0 along e w aim.pivot b.1 x (omega arith)) ∙ none_serve.none w x y)
-            (let x = r.turn_in.place in let y = r.turn_in.some in let z = r.turn_in.few in omega arith))
-        go (yes h) (no l) =
-            let b = a.look h in
-            let c = b.2 in
-            kept (omega arith)
-            (walked_skip G P n k bead_in turn.from to aim.step r.turn_in.up r.turn_in.most b.0 r.turn_in.few pivots along
-            (λ e w x y. sym (serves_is aim.step low b.0 along e w aim.pivot b.1 x y) ∙ none_serve.none w x (omega arith)))
-
-module _ (pattern log : List ℕ) (n : ℕ) (turn : Turn) (aim : Aim) (seeds found pivots : List ℕ) (b : Begun pattern log n turn aim seeds found pivots) where
-  pub begun_low : turn.from ≤ aim.end
-  begun_low = b.low
-
-  pub begun_most : aim.end ≤ 1024
-  begun_most = b.most
-
-  pub begun_inside : aim.pivot < 1024
-  begun_inside = b.inside
-
-  pub begun_more : turn.from < aim.to
-  begun_more = b.ready.more
-
-  pub begun_up : turn.step ≤ aim.step
-  begun_up = b.aimed.next.low
-
-  pub begun_step : aim.step ≤ n
-  begun_step = b.aimed.next.most
-
-  pub begun_in : TurnIn n turn aim.to
-  begun_in = b.ready.turn_in
-
--- the turn after it
-pub walks_on : {pattern log : List ℕ} {n : ℕ} {turn : Turn} {aim : Aim} {seeds found pivots : List ℕ} → Begun pattern log n turn aim seeds found pivots
-    → {u : ℕ} → NoneServe seeds found aim.pivot turn.from u → Stopped seeds found aim.pivot turn.from aim.end u → 9216 ≤ length pivots → {new : List ℕ}
-    → PutDown turn aim u pivots new → {next : Turn} → Next n turn aim next → Walking pattern log n next seeds found new
-walks_on {pattern} {log} {n} {turn} {aim} {seeds} {found} {pivots} b {u} none_serve stopped long {new} down {next} x = record {
-  beads = let a = x.beads in let b = r.beads in omega arith;
-  turn_in = λ l. subst (TurnIn n next) (sym x.to_is) (x.turn_in l);
-  more = λ l. let s = x.same l in let a = s.1 in let t = x.to_is in let m = r.more in omega arith;
-  served = λ l. let s = x.same l in rw (s.0, s.1, x.to_is) r.served;
-  walked = subst (λ (t : ℕ). Walked (log_of log) (pattern_of pattern) n next.left next.from t next.step new) (sym x.to_is)
-      (x.walked (log_of log) (pattern_of pattern) new r.beads
-      (passed pattern log n turn aim.to seeds found pivots r aim refl b.aimed u none_serve stopped new down long));
-}
-  where
-    r : TurnReady pattern log n turn aim.to seeds found pivots
-    r = b.ready
+        go : (q : Option ℕ) → picked ≡ q → Walked G P n (suc k) turn.from to (aim.step + 1) new
+        go None e =
+            let none = pick.none e in
+            subst (λ (l : List ℕ). Walked G P n (suc k) turn.from to (aim.step + 1) l) (sym (down.none e))
+            (walked_skip G P n k bead_in turn.from to aim.step r.turn_in.up r.turn_in.most a.next.inside r.turn_in.few pivots stands_at
+            (λ e w x y. sym (serves_is aim.step low a.next.inside stands_at e w aim.pivot a.pivot x y) ∙ none.none w x y))
+        go (Some u) e =
+            let f = pick.some u e in
+            let h = f.high in
+            subst (λ (x : List ℕ). Walked G P n (suc k) turn.from to (aim.step + 1) x) (sym (down.some u e))
+            (walked_put G P n k bead_in turn.from to aim.step r.turn_in.up r.turn_in.most a.next.inside r.turn_in.few pivots stands_at u a.next.search f.low h
+            (sym (serves_is aim.step low a.next.inside stands_at a.next.search u aim.pivot a.pivot f.low h) ∙ f.serves)
+            (λ w x y. sym (serves_is aim.step low a.next.inside stands_at a.next.search w aim.pivot a.pivot x (omega arith)) ∙ f.before.none w x y)
+            (let x = r.turn_in.place in let y = r.turn_in.some in let z = r.turn_in.few in let i = a.next.inside in omega arith))
 
 -- aim is taken in a turn that is ready
-pub begins : (pattern log : List ℕ) (n : ℕ) (turn : Turn) (to : ℕ) (aim : Aim) (seeds found pivots : List ℕ) → TurnReady pattern log n turn to seeds found pivots
-    → AimOf n turn found pivots aim → aim.to ≡ to → Begun pattern log n turn aim seeds found pivots
-begins pattern log n turn to aim seeds found pivots r a e = record {
-  low = a.low;
-  most = let m = a.most in let z = ready_most pattern log n turn to seeds found pivots r in omega arith;
-  inside = a.inside;
-  aimed = a;
-  ready = subst (λ (t : ℕ). TurnReady pattern log n turn t seeds found pivots) (sym e) r;
-}
+pub begins : (pattern log : List ℕ) (n : ℕ) (turn : Turn) (to : ℕ) (aim : Option Aim) (seeds found pivots : List ℕ) → TurnReady pattern log n turn to seeds found pivots
+    → AimOf n turn found pivots aim → Begun pattern log n turn (record { to = to; aim = aim }) seeds found pivots
+begins pattern log n turn to aim seeds found pivots r a = record { aimed = a; ready = r }
+
+module _ (pattern log : List ℕ) (n : ℕ) (turn : Turn) (opened : Opened) (seeds found pivots : List ℕ) (b : Begun pattern log n turn opened seeds found pivots) where
+  pub begun_more : turn.from < opened.to
+  begun_more = b.ready.more
+
+  pub begun_in : TurnIn n turn opened.to
+  begun_in = b.ready.turn_in
+
+  pub begun_aim : AimOf n turn found pivots opened.aim
+  begun_aim = b.aimed
+
+  module _ (new : List ℕ) (next : Turn) (s : Settled n turn opened seeds found pivots new next) (long : 9216 ≤ length pivots) where
+    -- the turn after it
+    goes_on : (after : ℕ) → Next n turn opened.to after next → Walked (log_of log) (pattern_of pattern) n turn.left turn.from opened.to after new
+        → Walking pattern log n next seeds found new
+    goes_on after x w = record {
+      beads = let a = x.beads in let c = b.ready.beads in omega arith;
+      turn_in = λ l. subst (TurnIn n next) (sym x.to_is) (x.turn_in l);
+      more = λ l. let s = x.same l in let a = s.1 in let t = x.to_is in let m = b.ready.more in omega arith;
+      served = λ l. let s = x.same l in rw (s.0, s.1, x.to_is) b.ready.served;
+      walked = subst (λ (t : ℕ). Walked (log_of log) (pattern_of pattern) n next.left next.from t next.step new) (sym x.to_is)
+          (x.walked (log_of log) (pattern_of pattern) new b.ready.beads w);
+    }
+
+    pub walks_on : Walking pattern log n next seeds found new
+    walks_on = go opened.aim refl
+      where
+        go : (q : Option Aim) → opened.aim ≡ q → Walking pattern log n next seeds found new
+        go None e =
+            let t = s.none e in
+            goes_on n t.1
+            (subst (λ (l : List ℕ). Walked (log_of log) (pattern_of pattern) n turn.left turn.from opened.to n l) (sym t.0)
+            (passed_all pattern log n turn opened.to seeds found pivots b.ready (b.aimed.none e)))
+        go (Some a) e =
+            let t = s.some a e in
+            goes_on (a.step + 1) t.after (passed pattern log n turn opened.to seeds found pivots b.ready a (b.aimed.some a e) t.picked t.pick new t.down long)
 
 -- ---- the search
 
@@ -376,24 +343,29 @@ module _ (seeds found : List ℕ) (p from : ℕ) where
   pub seek_none : NoneServe seeds found p from from
   seek_none = record { none = λ w a l. absurd (omega arith) }
 
-  module _ (u : ℕ) (s : NoneServe seeds found p from u) (b : Bool) (e : b ≡ overlaps 16 (get_or seeds u 0) (get_or found p 0)) where
-    pub seek_on : b ≡ false → NoneServe seeds found p from (u + 1)
-    seek_on f = record { none = λ w a l. go w a l (ℕ_discrete w u) }
+  module _ (u : ℕ) (s : NoneServe seeds found p from u) where
+    pub seek_on : (b : Bool) → b ≡ overlaps 16 (get_or seeds u 0) (get_or found p 0) → b ≡ false → NoneServe seeds found p from (u + 1)
+    seek_on b e f = record { none = λ w a l. go w a l (ℕ_discrete w u) }
       where
         go : (w : ℕ) → from ≤ w → w < u + 1 → Dec (w ≡ u) → overlaps 16 (get_or seeds w 0) (get_or found p 0) ≡ false
         go w a l (yes z) = rw z (sym e ∙ f)
         go w a l (no z) = s.none w a (omega arith)
 
-  pub stop_serving : (u end : ℕ) (b : Bool) → b ≡ overlaps 16 (get_or seeds u 0) (get_or found p 0) → b ≡ true → from ≤ u → u < end → Stopped seeds found p from end u
-  stop_serving u end b e f low high = record { low = low; most = omega arith; serves = λ l. sym e ∙ f }
+    pub seek_found : (to : ℕ) (b : Bool) → b ≡ overlaps 16 (get_or seeds u 0) (get_or found p 0) → b ≡ true → from ≤ u → u < to → Picked seeds found p from to (Some u)
+    seek_found to b e f low high = record {
+      some = λ w z. subst (FirstServes seeds found p from to) (number_is z) (record { low = low; high = high; serves = sym e ∙ f; before = s });
+      none = λ z. absurd (number_none z);
+    }
 
-  pub stop_end : (u end : ℕ) → from ≤ u → u ≤ end → end ≤ u → Stopped seeds found p from end u
-  stop_end u end low most h = record { low = low; most = most; serves = λ l. absurd (omega arith) }
+    pub seek_end : (to : ℕ) → to ≤ u → Picked seeds found p from to None
+    seek_end to h = record { some = λ w z. absurd (number_none (sym z)); none = λ z. record { none = λ w a l. s.none w a (omega arith) } }
+
+pub ruleset seek_kit = (seek_none, seek_on, seek_found, seek_end)
 
 -- ---- from turn to turn
 
-module _ (n : ℕ) (turn : Turn) (aim : Aim) (more : turn.from < aim.to) (up : turn.step ≤ aim.step) (most : aim.step ≤ n) (i : TurnIn n turn aim.to) where
-  pub next_step : aim.step + 1 < n → Next n turn aim (record { left = turn.left; from = turn.from; to = aim.to; step = aim.step + 1 })
+module _ (n : ℕ) (turn : Turn) (to after : ℕ) (more : turn.from < to) (up : turn.step < after) (i : TurnIn n turn to) where
+  pub next_step : after < n → Next n turn to after (record { left = turn.left; from = turn.from; to = to; step = after })
   unfolding turns_left
   next_step h = record {
     fewer = let a = i.inside in omega arith;
@@ -420,10 +392,10 @@ module _ (n : ℕ) (turn : Turn) (aim : Aim) (more : turn.from < aim.to) (up : t
       let r = suc-mul m' (suc n) in
       omega arith
 
-  pub next_candidates : n ≤ aim.step + 1 → aim.to < n → Next n turn aim (record { left = turn.left; from = aim.to; to = aim.to; step = aim.to })
+  pub next_candidates : n ≤ after → to < n → Next n turn to after (record { left = turn.left; from = to; to = to; step = to })
   unfolding turns_left
   next_candidates h l = record {
-    fewer = lessens (turn.left * suc n + (n - turn.from)) (turn.left * suc n + (n - aim.to)) (n - turn.step) (n - aim.to) (omega arith) (omega arith);
+    fewer = lessens (turn.left * suc n + (n - turn.from)) (turn.left * suc n + (n - to)) (n - turn.step) (n - to) (omega arith) (omega arith);
     beads = omega arith;
     to_is = refl;
     turn_in = λ b. record {
@@ -438,12 +410,12 @@ module _ (n : ℕ) (turn : Turn) (aim : Aim) (more : turn.from < aim.to) (up : t
     };
     same = λ b. absurd (omega arith);
     walked = λ G P pivots b w.
-        by_left G P n turn.left aim.to aim.to aim.to pivots i.some
-        (walked_on G P n (turn.left - 1) (let s = i.some in omega arith) turn.from aim.to (aim.step + 1) pivots h
-        (by_bead G P n turn.left turn.from aim.to (aim.step + 1) pivots i.some w));
+        by_left G P n turn.left to to to pivots i.some
+        (walked_on G P n (turn.left - 1) (let s = i.some in omega arith) turn.from to after pivots h
+        (by_bead G P n turn.left turn.from to after pivots i.some w));
   }
 
-  pub next_bead : n ≤ aim.step + 1 → n ≤ aim.to → Next n turn aim (record { left = turn.left - 1; from = 0; to = aim.to; step = 0 })
+  pub next_bead : n ≤ after → n ≤ to → Next n turn to after (record { left = turn.left - 1; from = 0; to = to; step = 0 })
   unfolding turns_left
   next_bead h l = record {
     fewer = lessens (turn.left * suc n + (n - turn.from)) ((turn.left - 1) * suc n + (n - 0)) (n - turn.step) (n - 0) fewer (omega arith);
@@ -461,12 +433,12 @@ module _ (n : ℕ) (turn : Turn) (aim : Aim) (more : turn.from < aim.to) (up : t
     };
     same = λ b. absurd (omega arith);
     walked = λ G P pivots b w.
-        walked_down G P n (turn.left - 1) (let s = i.some in omega arith) turn.from aim.to (aim.step + 1) pivots h
-        (subst (λ (t : ℕ). Walked G P n (suc (turn.left - 1)) turn.from t (aim.step + 1) pivots) all
-        (by_bead G P n turn.left turn.from aim.to (aim.step + 1) pivots i.some w));
+        walked_down G P n (turn.left - 1) (let s = i.some in omega arith) turn.from to after pivots h
+        (subst (λ (t : ℕ). Walked G P n (suc (turn.left - 1)) turn.from t after pivots) all
+        (by_bead G P n turn.left turn.from to after pivots i.some w));
   }
     where
-      all : aim.to ≡ n
+      all : to ≡ n
       all = let m = i.most in omega arith
 
       fewer : (turn.left - 1) * suc n + (n - 0) < turn.left * suc n + (n - turn.from)
@@ -476,10 +448,4 @@ module _ (n : ℕ) (turn : Turn) (aim : Aim) (more : turn.from < aim.to) (up : t
           let r = suc-mul (turn.left - 1) (suc n) in
           omega arith
 
-  pub step_fits : aim.step + 1 < 2 ^ 64
-  step_fits = let b = i.few in omega arith
-
-pub next_less : (n : ℕ) (turn : Turn) (aim : Aim) (next : Turn) → Next n turn aim next → turns_left n next < turns_left n turn
-next_less n turn aim next x = x.fewer
-
-pub ruleset next_kit = (in_some, next_step, next_candidates, next_bead, step_fits)
+pub ruleset next_kit = (in_some, next_step)

@@ -1,1 +1,2 @@
 pub mod PutLaws
+pub mod Then

@@ -1,79 +1,89 @@
-// Bytes and numbers written into a buffer from an index on. A byte is put where there is a place for
-// it, and the answer, the index behind what is written, advances anyway: so each function asks for
-// no room, and over a buffer without places it measures its text.
+// Bytes and numbers put one behind the other into a lent room. A byte is put where there is a place
+// for it, and the output goes on to the next place anyway: so no method asks for room, and over a
+// room without places an output measures its text. `fmt::Write` would not do: it takes a `str`,
+// and a header text is any bytes; and it answers a `Result`, where nothing here can fail.
 #![tactic(auto)]
 
 ghost use Rattle.std.specs.Prelude.{◌+◌, ◌*◌, ◌^◌, ◌≤◌, ◌<◌, ◌≡◌, ◌++◌, ◌∷◌, [], length};
 ghost use Rattle.numbers.specs.Numbers.{spell};
-ghost use Rattle.writing.specs.Put.{Put, listed};
+ghost use Rattle.writing.specs.Put.{Adds, listed};
 
-pub fn put_byte(out: &mut [u8], at: usize, b: u8) -> usize
-    requires { at + 1 < 2 ^ 64 }
-    ensures { Put (b ∷ []) at out.old result out.new }
-{
-    if at < out.len() {
-        out[at] = b;
-        return at + 1;
+// A room, and the index of the next byte, which may lie behind the room's last place.
+#[derive(Drop)]
+pub struct Output<'a> {
+    pub room: &'a mut [u8],
+    pub at: usize,
+}
+
+#[tactic(auto, using(crate::proofs::PutLaws::kit))]
+impl<'a> Output<'a> {
+    // From the front of the room.
+    pub fn new(room: &'a mut [u8]) -> Output<'a>
+        ensures same_room { result.room.ghost_name ≡ room.entry.ghost_name }
+        ensures as_it_was { result.room.now ≡ room.old }
+        ensures front { result.at ≡ 0 }
+    {
+        Output { room, at: 0 }
     }
-    at + 1
-}
 
-// The decimal digits of n.
-fn put_digits(out: &mut [u8], at: usize, n: u16) -> usize
-    requires { at + length (spell n) < 2 ^ 64 }
-    ensures { Put (spell n) at out.old result out.new }
-{
-    if n < 10 {
-        return put_byte(out, at, 48 + n as u8);
+    pub fn put_byte(&mut self, b: u8)
+        requires { self.old.at + 1 < 2 ^ 64 }
+        ensures { Adds (b ∷ []) self.old self.new }
+    {
+        if self.at < self.room.len() {
+            self.room[self.at] = b;
+        }
+        self.at += 1;
     }
-    let next = put_digits(out, at, n / 10);
-    put_byte(out, next, 48 + (n % 10) as u8)
-}
 
-// The same: a u16 has at most five digits.
-pub fn put_number(out: &mut [u8], at: usize, n: u16) -> usize
-    requires { at + 5 < 2 ^ 64 }
-    ensures put { Put (spell n) at out.old result out.new }
-    ensures upper_bound { result ≤ at + 5 }
-{
-    put_digits(out, at, n)
-}
-
-// The number, and a byte behind it.
-pub fn put_ended(out: &mut [u8], at: usize, n: u16, end: u8) -> usize
-    requires { at + 6 < 2 ^ 64 }
-    ensures put { Put (spell n ++ (end ∷ [])) at out.old result out.new }
-    ensures upper_bound { result ≤ at + 6 }
-{
-    let next = put_number(out, at, n);
-    put_byte(out, next, end)
-}
-
-pub fn put_bytes(out: &mut [u8], at: usize, bytes: &[u8]) -> usize
-    requires { at + length bytes.now < 2 ^ 64 }
-    ensures { Put bytes.now at out.old result out.new }
-{
-    let mut next = at;
-    let mut i = 0;
-    while i < bytes.len() {
-        next = put_byte(out, next, bytes[i]);
-        i += 1;
+    // The decimal digits of n: the last one comes out first, and is put last, so this calls itself.
+    fn put_digits(&mut self, n: u16)
+        requires { self.old.at + length (spell n) < 2 ^ 64 }
+        ensures { Adds (spell n) self.old self.new }
+    {
+        if n >= 10 {
+            self.put_digits(n / 10);
+        }
+        self.put_byte(b'0' + (n % 10) as u8);
     }
-    next
-}
 
-// Each number behind the separator.
-pub fn put_listed(out: &mut [u8], at: usize, separator: u8, numbers: &[u16]) -> usize
-    requires { at + 6 * length numbers.now < 2 ^ 64 }
-    ensures put { Put (listed separator numbers.now) at out.old result out.new }
-    ensures upper_bound { result ≤ at + 6 * length numbers.now }
-{
-    let mut next = at;
-    let mut i = 0;
-    while i < numbers.len() {
-        next = put_byte(out, next, separator);
-        next = put_number(out, next, numbers[i]);
-        i += 1;
+    // The same: a u16 has at most five digits.
+    pub fn put_number(&mut self, n: u16)
+        requires { self.old.at + 5 < 2 ^ 64 }
+        ensures put { Adds (spell n) self.old self.new }
+        ensures upper_bound { self.new.at ≤ self.old.at + 5 }
+    {
+        self.put_digits(n);
     }
-    next
+
+    // The number, and a byte behind it.
+    pub fn put_ended(&mut self, n: u16, end: u8)
+        requires { self.old.at + 6 < 2 ^ 64 }
+        ensures put { Adds (spell n ++ (end ∷ [])) self.old self.new }
+        ensures upper_bound { self.new.at ≤ self.old.at + 6 }
+    {
+        self.put_number(n);
+        self.put_byte(end);
+    }
+
+    pub fn put_bytes(&mut self, bytes: &[u8])
+        requires { self.old.at + length bytes.now < 2 ^ 64 }
+        ensures { Adds bytes.now self.old self.new }
+    {
+        for b in bytes {
+            self.put_byte(*b);
+        }
+    }
+
+    // Each number behind the separator.
+    pub fn put_listed(&mut self, separator: u8, numbers: &[u16])
+        requires { self.old.at + 6 * length numbers.now < 2 ^ 64 }
+        ensures put { Adds (listed separator numbers.now) self.old self.new }
+        ensures upper_bound { self.new.at ≤ self.old.at + 6 * length numbers.now }
+    {
+        for n in numbers {
+            self.put_byte(separator);
+            self.put_number(*n);
+        }
+    }
 }

@@ -1,5 +1,4 @@
 -- `state_values` writes the values from the front, each from the leaf.
-use Prim.Native.Nat.{◌≤◌, ◌-◌}
 use mathlib.Core.Path.{◌≡◌}
 use lib.ListN.{length}
 use Rattle.sets.specs.Sets.{singleton}
@@ -7,7 +6,4 @@ use Rattle.lists.specs.Filled.{Filled}
 use Rattle.entering.proofs.state_values.Given as goal
 
 abbrev pub invariant-loop-state : goal.invariant-loop-state
-invariant-loop-state l = (l.state ≤ 16) × (length l.values ≡ 16) × Filled singleton l.state l.values
-
-abbrev pub decreases-loop-state : goal.decreases-loop-state
-decreases-loop-state l = 16 - l.state
+invariant-loop-state l = (length l.values ≡ 16) × Filled singleton l.state l.values

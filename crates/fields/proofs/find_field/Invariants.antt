@@ -8,7 +8,4 @@ use Rattle.fields.proofs.FieldLaws.{part_from}
 use Rattle.fields.proofs.find_field.Given as goal
 
 abbrev pub invariant-loop-i : goal.invariant-loop-i
-invariant-loop-i l = (l.at ≤ length l.line) × (l.i ≤ l.index) × (field_of l.separator l.line l.index ≡ part_from l.at (split l.separator (drop l.at l.line)) (l.index - l.i))
-
-abbrev pub decreases-loop-i : goal.decreases-loop-i
-decreases-loop-i l = l.index - l.i
+invariant-loop-i l = (l.at ≤ length l.line) × (l._i ≤ l.index) × (field_of l.separator l.line l.index ≡ part_from l.at (split l.separator (drop l.at l.line)) (l.index - l._i))

@@ -1,13 +1,9 @@
 -- `all_onward` writes the next states from the front, state by state.
-use Rattle.hope.specs.Hope.{onward_from}
-use Rattle.lists.specs.Filled.{Filled}
-use lib.ListN.{length}
 use mathlib.Core.Path.{◌≡◌}
-use Prim.Native.Nat.{◌≤◌, ◌-◌}
+use lib.ListN.{length}
+use Rattle.lists.specs.Filled.{Filled}
+use Rattle.hope.specs.Hope.{onward_from}
 use Rattle.hope.proofs.all_onward.Given as goal
 
 abbrev pub invariant-loop-state : goal.invariant-loop-state
-invariant-loop-state l = (l.state ≤ 16) × (length l.onwards ≡ 16) × Filled (onward_from l.pattern l.bead) l.state l.onwards
-
-abbrev pub decreases-loop-state : goal.decreases-loop-state
-decreases-loop-state l = 16 - l.state
+invariant-loop-state l = (length l.onwards ≡ 16) × Filled (onward_from l.bead.pattern.now l.bead.place) l.state l.onwards

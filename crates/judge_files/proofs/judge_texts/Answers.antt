@@ -1,7 +1,14 @@
 -- The pattern, then the log.
-use Rattle.std.proofs.Common.{rules}
-use Rattle.judge_files.proofs.FileLaws.{kit}
+use Rattle.std.proofs.Common.{refl}
+use Rattle.judge_files.specs.Files.{log_refused, log_judged, pattern_read}
 use Rattle.judge_files.proofs.judge_texts.Goals as goal
 
-pub returns-then-first-eq0 : goal.returns-then-first-eq0
-returns-then-first-eq0 g c = search (rules, kit)
+pub returns-then-not-is_accepted-2-clause-run : goal.returns-then-not-is_accepted-2-clause-run
+returns-then-not-is_accepted-2-clause-run g c =
+    pattern_read _ c.read_pattern_file-pattern_read.ensures (c.if-not-is_accepted.ensures.0 refl)
+    (log_refused c.read_log_file-log_read.ensures (λ z. let f = c.if-not-is_accepted-2.ensures.1 z in cc) refl refl)
+
+pub returns-clause-run : goal.returns-clause-run
+returns-clause-run g c =
+    pattern_read _ c.read_pattern_file-pattern_read.ensures (c.if-not-is_accepted.ensures.0 refl)
+    (log_judged _ c.read_log_file-log_read.ensures (c.if-not-is_accepted-2.ensures.0 refl) c.judge.ensures.value c.judge.ensures.res_after c.judge.ensures.work_after)

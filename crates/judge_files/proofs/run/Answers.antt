@@ -1,13 +1,21 @@
 -- Both files read and judged, then what is printed.
-use Rattle.std.proofs.Common.{rules}
-use Rattle.judge_files.proofs.OutputLaws.{kit}
+use Rattle.std.proofs.Common.{◌≡◌, length, arith, ap, refl}
+use Rattle.judge_files.proofs.OutputLaws.{rows_room, rows_out, refusal_out}
 use Rattle.judge_files.proofs.run.Goals as goal
 
 pub put_rows-length-requires : goal.put_rows-length-requires
-put_rows-length-requires g c = search (rules, kit)
+put_rows-length-requires g c =
+    let e : length c.judge_texts-answer.new.rooms.result ≡ 10240 = omega arith in
+    rows_room _ _ _ _ _ _ _ _ _ _ _ c.judge_texts-answer.ensures.run (c.if-is_accepted.ensures.0 refl) e
 
-pub returns-then-answer-eq0-clause-at_front : goal.returns-then-answer-eq0-clause-at_front
-returns-then-answer-eq0-clause-at_front g c = search (rules, kit)
+pub returns-then-is_accepted-clause-at_front : goal.returns-then-is_accepted-clause-at_front
+returns-then-is_accepted-clause-at_front g c =
+    let w = rw c.judge_texts-answer.ensures.output_unchanged at c.put_rows-length.ensures in
+    let e : length c.args.rooms.now.output ≡ 65536 = omega (arith, ap length c.judge_texts-answer.ensures.output_unchanged) in
+    rows_out _ _ _ _ _ _ _ _ _ _ _ c.judge_texts-answer.ensures.run (c.if-is_accepted.ensures.0 refl) _ _ _ w e
 
-pub returns-clause-at_front : goal.returns-clause-at_front
-returns-clause-at_front g c = search (rules, kit)
+pub returns-else-is_accepted-clause-at_front : goal.returns-else-is_accepted-clause-at_front
+returns-else-is_accepted-clause-at_front g c =
+    let w = rw c.judge_texts-answer.ensures.output_unchanged at c.put_refusal-length.ensures in
+    let e : length c.args.rooms.now.output ≡ 65536 = omega (arith, ap length c.judge_texts-answer.ensures.output_unchanged) in
+    refusal_out _ _ _ c.judge_texts-answer.result _ _ _ (λ z. let f = c.if-is_accepted.ensures.1 z in cc) (omega arith) (omega arith) (omega arith) w e

@@ -1,24 +1,18 @@
-use Rattle.lanes.proofs.GatherLaws.{gather_end as kit}
+-- The lanes of a listed step are added, or it has none.
 use borrow.Author.Rules.{rules}
+use Rattle.lanes.proofs.GatherLaws.{gather_none, link_kit as kit, gather_end}
 use Rattle.lanes.proofs.gather.Goals as goal
+use Rattle.lanes.proofs.gather.Goals.{then-first-w, else-first-w}
 
-pub loop-j-init : goal.loop-j-init
-loop-j-init c = search (rules, kit)
+pub loop-link-init : goal.loop-link-init
+loop-link-init c = search (rules, gather_none)
 
-pub add_link-requires : goal.add_link-requires
-add_link-requires c = search (rules, kit)
-
-pub overflow_add-j : goal.overflow_add-j
-overflow_add-j c = search (rules, kit)
-
-pub loop-j-smaller : goal.loop-j-smaller
-loop-j-smaller c = search (rules, kit)
-
-pub loop-j-preserved : goal.loop-j-preserved
-loop-j-preserved c = search (rules, kit)
-
-pub shape_of-here : goal.shape_of-here
-shape_of-here c = search (rules, kit)
+pub loop-link-preserved : goal.loop-link-preserved
+loop-link-preserved c =
+    elim c.if-first-w.branch [
+      | then-first-w w ↦ rw w.here-is (search (rules, kit))
+      | else-first-w w ↦ rw w.here-is (search (rules, kit))
+    ]
 
 pub returns : goal.returns
-returns c = search (rules, kit)
+returns c = search (rules, gather_end)

@@ -1,9 +1,8 @@
-use Rattle.std.proofs.Common.{◌≡◌, ◌≤◌, length}
-use Rattle.loading.proofs.LoadLaws.{left}
+use Rattle.std.proofs.Common.{◌≤◌, ◌-◌, length}
 use Rattle.loading.proofs.read_whole.Given as goal
 
-abbrev pub invariant-loop-text : goal.invariant-loop-text
-invariant-loop-text g l = (length l.buf ≡ length l.initial.buf) × (l.text.bytes ≤ length l.buf)
+abbrev pub invariant-loop-bytes : goal.invariant-loop-bytes
+invariant-loop-bytes g l = l.done ≤ length l.buf
 
-abbrev pub decreases-loop-text : goal.decreases-loop-text
-decreases-loop-text g l = left (length l.initial.buf) l.text
+abbrev pub decreases-loop-bytes : goal.decreases-loop-bytes
+decreases-loop-bytes g l = length l.initial.buf - l.done

@@ -8,7 +8,4 @@ use Rattle.log_byte.proofs.LinkLaws.{links_from}
 use Rattle.log_byte.proofs.links_before.Given as goal
 
 abbrev pub invariant-loop-v : goal.invariant-loop-v
-invariant-loop-v l = (l.at ≤ length l.text + 1) × (l.links ≤ l.at) × (l.v ≤ l.steps) × (link_count (steps_before l.text l.line) ≡ l.links + links_from l.text l.at (l.steps - l.v))
-
-abbrev pub decreases-loop-v : goal.decreases-loop-v
-decreases-loop-v l = l.steps - l.v
+invariant-loop-v l = (l.at ≤ length l.text + 1) × (l.links ≤ l.at) × (link_count (steps_before l.text l.line) ≡ l.links + links_from l.text l.at (l.steps - l.v))

@@ -1,24 +1,7 @@
-use borrow.Author.Rules.{rules}
-use Rattle.log_buffer.proofs.TestLaws.{steps_kit}
+use Rattle.std.proofs.Common.{rules, tests, refl}
+use Rattle.std.proofs.lemmas.Iterator.{YieldsList-from_range}
+use Rattle.sets.proofs.Below.{all_below_ran}
 use Rattle.log_test.proofs.all_values.Goals as goal
 
-pub loop-v-init : goal.loop-v-init
-loop-v-init c = search (rules, steps_kit)
-
-pub values_ok-requires : goal.values_ok-requires
-values_ok-requires c = search (rules, steps_kit)
-
-pub returns-then-not-values_ok : goal.returns-then-not-values_ok
-returns-then-not-values_ok c = search (rules, steps_kit)
-
-pub overflow_add-v : goal.overflow_add-v
-overflow_add-v c = search (rules, steps_kit)
-
-pub loop-v-smaller : goal.loop-v-smaller
-loop-v-smaller c = search (rules, steps_kit)
-
-pub loop-v-preserved : goal.loop-v-preserved
-loop-v-preserved c = search (rules, steps_kit)
-
 pub returns : goal.returns
-returns c = search (rules, steps_kit)
+returns c = all_below_ran _ _ _ c.all.ensures.ran _ (YieldsList-from_range 0 _ _ refl refl) (λ x b q k. search (rules, tests))

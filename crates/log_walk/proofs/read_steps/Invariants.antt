@@ -6,8 +6,8 @@ use Prim.Native.Nat.{◌≤◌, ◌-◌}
 use Rattle.log_walk.proofs.read_steps.Given as goal
 
 abbrev pub invariant-loop-at : goal.invariant-loop-at
-invariant-loop-at l = (l.at ≤ length l.text) × (l.v ≤ 1024) × (l.links ≤ 4096)
-    × (length l.buffer ≡ 7170) × Reading l.text l.start l.labels l.order l.at l.v l.links l.buffer
+invariant-loop-at l = (l.at ≤ length l.text) × (l.position.step ≤ 1024) × (l.position.links ≤ 4096) × (l.position.labels ≡ l.labels)
+    × (length l.buffer ≡ 7170) × Reading l.text l.start l.labels l.order l.at l.position.step l.position.links l.buffer
 
 abbrev pub decreases-loop-at : goal.decreases-loop-at
 decreases-loop-at l = length l.text - l.at

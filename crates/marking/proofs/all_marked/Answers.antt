@@ -1,36 +1,16 @@
-use borrow.Author.Rules.{rules}
-use Rattle.marking.proofs.AddLaws.{from_kit}
+-- `all` over the part, from its end.
+use Rattle.std.proofs.Common.{◌≡◌, ◌-◌, take, drop, rules, tests}
+use Rattle.std.specs.Prelude.{reverse}
+use Rattle.std.specs.List.{list_all}
+use Rattle.std.proofs.lemmas.Iterator.Search.{all_from_yields_List}
+use Rattle.std.proofs.lemmas.Iterator.Adapters.{YieldsList-from_rev_slice}
+use Rattle.sets.specs.Sets.{member}
+use Rattle.marking.proofs.AddLaws.{all_have}
 use Rattle.marking.proofs.all_marked.Goals as goal
 
-pub loop-v-init : goal.loop-v-init
-loop-v-init c = search (rules, from_kit)
-
-pub overflow_sub-v : goal.overflow_sub-v
-overflow_sub-v c = search (rules, from_kit)
-
-pub offset_bounds-prefixes-v : goal.offset_bounds-prefixes-v
-offset_bounds-prefixes-v c = search (rules, from_kit)
-
-pub bounds-prefixes-v : goal.bounds-prefixes-v
-bounds-prefixes-v c = search (rules, from_kit)
-
-pub overflow_cast-bead : goal.overflow_cast-bead
-overflow_cast-bead c = search (rules, from_kit)
-
-pub member-there-requires : goal.member-there-requires
-member-there-requires c = search (rules, from_kit)
-
-pub overflow_sub-v-then-there : goal.overflow_sub-v-then-there
-overflow_sub-v-then-there c = search (rules, from_kit)
-
-pub loop-v-smaller : goal.loop-v-smaller
-loop-v-smaller c = search (rules, from_kit)
-
-pub loop-v-preserved : goal.loop-v-preserved
-loop-v-preserved c = search (rules, from_kit)
-
-pub returns-else-there : goal.returns-else-there
-returns-else-there c = search (rules, from_kit)
-
 pub returns : goal.returns
-returns c = search (rules, from_kit)
+returns c =
+    let part = take (c.args.n - c.args.u) (drop c.args.u c.args.prefixes.now) in
+    let e : c.all.result ≡ list_all (member c.args.bead) (reverse part) =
+    all_from_yields_List (member c.args.bead) _ _ c.all.result c.all.ensures.ran (YieldsList-from_rev_slice part (search rules)) (λ x b q k. search (rules, tests)) in
+    all_have _ _ _ _ _ e (search rules)

@@ -1,6 +1,6 @@
 -- The loop keeps: the answer is that of the bytes left, after so many digits of this value.
 use mathlib.Core.Path.{◌≡◌}
-use Prim.Native.Nat.{◌-◌, ◌≤◌, ◌<◌}
+use Prim.Native.Nat.{◌≤◌, ◌<◌}
 use lib.ListN.{length, drop}
 use Rattle.numbers.specs.Numbers.{largest, first_read}
 use Rattle.numbers.proofs.NumberLaws.{Leads, read_from}
@@ -8,6 +8,3 @@ use Rattle.numbers.proofs.read_digits.Given as goal
 
 abbrev pub invariant-loop-i : goal.invariant-loop-i
 invariant-loop-i l = (l.i ≤ length l.bytes) × (l.value ≤ 65535) × (l.separator < 48) × Leads l.bytes l.i l.value × (first_read l.separator l.bytes ≡ read_from largest l.separator l.i l.value (drop l.i l.bytes))
-
-abbrev pub decreases-loop-i : goal.decreases-loop-i
-decreases-loop-i l = length l.bytes - l.i

@@ -3,11 +3,7 @@ use Rattle.pattern_header.specs.Header.{distinct}
 use Rattle.pattern_line.specs.Line.{fields_of}
 use lib.ListN.{drop}
 use mathlib.Core.Path.{◌≡◌}
-use Prim.Native.Nat.{◌≤◌, ◌-◌}
 use Rattle.pattern_header.proofs.are_distinct.Given as goal
 
 abbrev pub invariant-loop-i : goal.invariant-loop-i
-invariant-loop-i l = (4 ≤ l.i) × (distinct (drop 4 (fields_of l.line)) ≡ distinct (drop l.i (fields_of l.line)))
-
-abbrev pub decreases-loop-i : goal.decreases-loop-i
-decreases-loop-i l = l.count - l.i
+invariant-loop-i l = distinct (drop 4 (fields_of l.fields.line.now)) ≡ distinct (drop l.i (fields_of l.fields.line.now))

@@ -1,28 +1,16 @@
--- One column after the other.
-use borrow.Author.Rules.{rules}
-use Rattle.pattern_header.proofs.HeaderLaws.{columns_kit}
+-- The four tests in a row.
+use Rattle.std.proofs.Common.{rules, get_or, []}
+use mathlib.Core.Path.{◌∙◌, refl}
+use Rattle.std.proofs.lemmas.Iterator.Search.{all_from_yields_List}
+use Rattle.std.proofs.lemmas.Iterator.{YieldsList-from_range}
+use Rattle.fields.specs.Fields.{same_bytes}
+use Rattle.pattern_line.specs.Line.{field_at}
+use Rattle.pattern_header.specs.Header.{columns}
+use Rattle.pattern_header.proofs.HeaderLaws.{columns_by_field}
 use Rattle.pattern_header.proofs.has_columns.Goals as goal
 
-pub word_at-requires : goal.word_at-requires
-word_at-requires c = search (rules, columns_kit)
-
-pub returns-then-not-word_at : goal.returns-then-not-word_at
-returns-then-not-word_at c = search (rules, columns_kit)
-
-pub word_at-requires-2 : goal.word_at-requires-2
-word_at-requires-2 c = search (rules, columns_kit)
-
-pub returns-then-not-word_at-2 : goal.returns-then-not-word_at-2
-returns-then-not-word_at-2 c = search (rules, columns_kit)
-
-pub word_at-requires-3 : goal.word_at-requires-3
-word_at-requires-3 c = search (rules, columns_kit)
-
-pub returns-then-not-word_at-3 : goal.returns-then-not-word_at-3
-returns-then-not-word_at-3 c = search (rules, columns_kit)
-
-pub word_at-requires-4 : goal.word_at-requires-4
-word_at-requires-4 c = search (rules, columns_kit)
-
 pub returns : goal.returns
-returns c = search (rules, columns_kit)
+returns c =
+    all_from_yields_List (λ i. same_bytes (field_at c.args.fields.now.line.now i) (get_or columns i [])) _ _ _ c.all.ensures.ran (YieldsList-from_range 0 4 4 (cc) refl)
+    (λ x b q k. search rules)
+    ∙ columns_by_field _

@@ -3,11 +3,8 @@ use Rattle.pattern_header.specs.Header.{among}
 use Rattle.pattern_line.specs.Line.{fields_of, field_at}
 use lib.ListN.{drop}
 use mathlib.Core.Path.{◌≡◌}
-use Prim.Native.Nat.{◌-◌, ◌+◌}
+use Prim.Native.Nat.{◌+◌}
 use Rattle.pattern_header.proofs.stands_again.Given as goal
 
 abbrev pub invariant-loop-i : goal.invariant-loop-i
-invariant-loop-i l = among (field_at l.line l.index) (drop (l.index + 1) (fields_of l.line)) ≡ among (field_at l.line l.index) (drop l.i (fields_of l.line))
-
-abbrev pub decreases-loop-i : goal.decreases-loop-i
-decreases-loop-i l = l.count - l.i
+invariant-loop-i l = among (field_at l.fields.line.now l.index) (drop (l.index + 1) (fields_of l.fields.line.now)) ≡ among (field_at l.fields.line.now l.index) (drop l.i (fields_of l.fields.line.now))

@@ -5,8 +5,5 @@ use mathlib.Core.Path.{◌≡◌}
 use Prim.Native.Nat.{◌≤◌, ◌-◌, ◌+◌}
 use Rattle.pattern_late.proofs.find_late.Given as goal
 
-abbrev pub invariant-loop-i : goal.invariant-loop-i
-invariant-loop-i l = (l.i ≤ 128) × (l.line ≤ l.i + 2) × (late_faults l.buffer ≡ late_from l.buffer l.line l.i)
-
-abbrev pub decreases-loop-i : goal.decreases-loop-i
-decreases-loop-i l = 128 - l.i
+abbrev pub invariant-loop-slot : goal.invariant-loop-slot
+invariant-loop-slot l = (l.line ≤ l.slot + 2) × (late_faults l.buffer ≡ late_from l.buffer l.line l.slot)

@@ -4,14 +4,10 @@ use Rattle.numbers.specs.Listed.{are_numbers}
 use lib.ListN.{length, drop}
 use mathlib.Core.Path.{◌≡◌}
 use mathlib.Core.Bool.{◌&&◌}
-use Prim.Native.Nat.{◌≤◌, ◌-◌}
 use Rattle.pattern_row.proofs.RowLaws.{set_at, set_fields}
 use Rattle.pattern_row.proofs.read_next.Given as goal
 
 abbrev pub invariant-loop-a : goal.invariant-loop-a
 invariant-loop-a l =
-    (l.a ≤ 16) × (length l.initial.next ≡ 16) × (length l.next ≡ 16) × (l.next ≡ part (set_at l.line) l.a l.initial.next)
-    × (are_numbers (set_fields l.line) ≡ (l.numbers && are_numbers (drop l.a (set_fields l.line))))
-
-abbrev pub decreases-loop-a : goal.decreases-loop-a
-decreases-loop-a l = 16 - l.a
+    (length l.initial.next ≡ 16) × (length l.next ≡ 16) × (l.next ≡ part (set_at l.fields.line.now) l.a l.initial.next)
+    × (are_numbers (set_fields l.fields.line.now) ≡ (l.numbers && are_numbers (drop l.a (set_fields l.fields.line.now))))

@@ -1,10 +1,10 @@
+use borrow.Author.Rules.{rules}
 use Rattle.starts.proofs.StartLaws.{looked_none, starts_end}
 use Rattle.starts.proofs.LaneLaws.{lanes_none, starts_full, starts_apart}
-use borrow.Author.Rules.{rules}
 use Rattle.starts.proofs.choose.Goals as goal
 
 pub loop-dealt-init : goal.loop-dealt-init
-loop-dealt-init c = (search rules, search rules, search rules, search rules, search (rules, looked_none), search (rules, lanes_none))
+loop-dealt-init c = (search rules, search rules, search (rules, looked_none), search (rules, lanes_none))
 
 pub returns-then-dealt-eq16-clause-starts_of : goal.returns-then-dealt-eq16-clause-starts_of
 returns-then-dealt-eq16-clause-starts_of c = search (rules, starts_full)

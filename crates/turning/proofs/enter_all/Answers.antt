@@ -1,24 +1,18 @@
-use Rattle.turning.proofs.EnterLaws.{kit}
+-- The lanes of a state are brought on, or it has none.
 use borrow.Author.Rules.{rules}
+use Rattle.turning.proofs.EnterLaws.{kit}
 use Rattle.turning.proofs.enter_all.Goals as goal
+use Rattle.turning.proofs.enter_all.Goals.{then-lanes-ne0, else-lanes-ne0}
 
-pub loop-q-init : goal.loop-q-init
-loop-q-init c = search (rules, kit)
+pub loop-state-init : goal.loop-state-init
+loop-state-init c = search (rules, kit)
 
-pub slice_bounds-enter_from-end : goal.slice_bounds-enter_from-end
-slice_bounds-enter_from-end c = search (rules, kit)
-
-pub enter_from-requires : goal.enter_from-requires
-enter_from-requires c = search (rules, kit)
-
-pub overflow_add-q : goal.overflow_add-q
-overflow_add-q c = search (rules, kit)
-
-pub loop-q-smaller : goal.loop-q-smaller
-loop-q-smaller c = search (rules, kit)
-
-pub loop-q-preserved : goal.loop-q-preserved
-loop-q-preserved c = search (rules, kit)
+pub loop-state-preserved : goal.loop-state-preserved
+loop-state-preserved c =
+    elim c.if-lanes-ne0.branch [
+      | then-lanes-ne0 w ↦ rw w.next-is (search (rules, kit))
+      | else-lanes-ne0 w ↦ rw w.next-is (search (rules, kit))
+    ]
 
 pub returns : goal.returns
 returns c = search (rules, kit)

@@ -1,39 +1,16 @@
-use Rattle.walk_places.proofs.SearchLaws.{none_kit as kit}
-use borrow.Author.Rules.{rules}
+-- `all` over the places of a bead, from their end.
+use Rattle.std.proofs.Common.{◌≡◌, ℕ, ◌+◌, ◌-◌, ◌*◌, not, eqb, take, drop, rules, tests}
+use Rattle.std.specs.Prelude.{reverse}
+use Rattle.std.specs.List.{list_all}
+use Rattle.std.proofs.lemmas.Iterator.Search.{all_from_yields_List}
+use Rattle.std.proofs.lemmas.Iterator.Adapters.{YieldsList-from_rev_slice}
+use Rattle.walk_places.proofs.SearchLaws.{none_have}
 use Rattle.walk_places.proofs.none_search.Goals as goal
 
-pub loop-v-init : goal.loop-v-init
-loop-v-init c = search (rules, kit)
-
-pub overflow_mul-k : goal.overflow_mul-k
-overflow_mul-k c = search (rules, kit)
-
-pub overflow_sub-v : goal.overflow_sub-v
-overflow_sub-v c = search (rules, kit)
-
-pub overflow_add-k : goal.overflow_add-k
-overflow_add-k c = search (rules, kit)
-
-pub offset_bounds-pivots-k : goal.offset_bounds-pivots-k
-offset_bounds-pivots-k c = search (rules, kit)
-
-pub bounds-pivots-k : goal.bounds-pivots-k
-bounds-pivots-k c = search (rules, kit)
-
-pub wide-place-requires : goal.wide-place-requires
-wide-place-requires c = search (rules, kit)
-
-pub returns-then-place-n : goal.returns-then-place-n
-returns-then-place-n c = search (rules, kit)
-
-pub overflow_sub-v-in-loop-v : goal.overflow_sub-v-in-loop-v
-overflow_sub-v-in-loop-v c = search (rules, kit)
-
-pub loop-v-smaller : goal.loop-v-smaller
-loop-v-smaller c = search (rules, kit)
-
-pub loop-v-preserved : goal.loop-v-preserved
-loop-v-preserved c = search (rules, kit)
-
 pub returns : goal.returns
-returns c = search (rules, kit)
+returns c =
+    let first = 1024 * c.args.k + c.args.from in
+    let part = take (1024 * c.args.k + c.args.n - first) (drop first c.args.pivots.now) in
+    let e : c.all.result ≡ list_all (λ (x : ℕ). not (eqb x c.args.n)) (reverse part) =
+    all_from_yields_List (λ (x : ℕ). not (eqb x c.args.n)) _ _ c.all.result c.all.ensures.ran (YieldsList-from_rev_slice part (search rules)) (λ x b q k. search (rules, tests)) in
+    none_have _ _ _ _ _ e (search rules)

@@ -1,0 +1,63 @@
+// The judge on a log and on a changed one, with a pattern of one bead.
+use judged_pairs::{Noise, Pair};
+use places::Rule;
+use std::io;
+use std::num::Wrapping;
+
+#[derive(Default, Drop)]
+pub struct ChangeCounts {
+    some_pairs: Wrapping<u64>,
+    some_rows: Wrapping<u64>,
+    held: Wrapping<u64>,
+    pub lost: Wrapping<u64>,
+    all_pairs: Wrapping<u64>,
+    all_rows: Wrapping<u64>,
+    failed: Wrapping<u64>,
+    gained: Wrapping<u64>,
+    refused: Wrapping<u64>,
+}
+
+impl ChangeCounts {
+    pub fn compare(&mut self, first: &Pair, second: &Pair) {
+        let one = first.judge(Noise::default());
+        let two = second.judge(Noise::default());
+        self.refused += u64::from(one.is_refused());
+        self.refused += u64::from(two.is_refused());
+        let rule = first.pattern.rule(0);
+        match rule {
+            Rule::ForSome => self.some_pairs += 1,
+            Rule::ForAll => self.all_pairs += 1,
+        }
+        let steps = usize::from(first.log.step_count());
+        for (row, other) in one.rows.iter().zip(&two.rows).take(steps) {
+            self.compare_row(rule, row[0] == 1, other[0] == 1);
+        }
+    }
+
+    fn compare_row(&mut self, rule: Rule, before: bool, after: bool) {
+        match rule {
+            Rule::ForSome => {
+                self.some_rows += 1;
+                self.held += u64::from(before);
+                self.lost += u64::from(before && !after);
+            }
+            Rule::ForAll => {
+                self.all_rows += 1;
+                self.failed += u64::from(!before);
+                self.gained += u64::from(!before && after);
+            }
+        }
+    }
+
+    pub fn print(&self, rt: &impl Print, how: &str) -> io::Result<()> {
+        println!(rt; "pairs of logs, {how}, one SOME bead: {}", self.some_pairs)?;
+        println!(rt; "rows compared: {}", self.some_rows)?;
+        println!(rt; "  rows at which SOME held: {}", self.held)?;
+        println!(rt; "  of these, failing in the second: {}", self.lost)?;
+        println!(rt; "pairs of logs, {how}, one ALL bead: {}", self.all_pairs)?;
+        println!(rt; "rows compared: {}", self.all_rows)?;
+        println!(rt; "  rows at which ALL failed: {}", self.failed)?;
+        println!(rt; "  of these, holding in the second: {}", self.gained)?;
+        println!(rt; "logs refused: {}", self.refused)
+    }
+}

@@ -1,9 +1,0 @@
--- `is_zero` ends at the second index.
-use Prim.Native.Nat.{◌≤◌, ◌-◌}
-use Rattle.judge_cases.proofs.kept.is_zero.Given as goal
-
-abbrev pub invariant-loop-i : goal.invariant-loop-i
-invariant-loop-i l = 0 ≤ l.i
-
-abbrev pub decreases-loop-i : goal.decreases-loop-i
-decreases-loop-i l = l.to - l.i

@@ -1,9 +1,0 @@
--- `print_tally` ends at the end of the counts.
-use Rattle.std.proofs.Common.{◌-◌, ◌≤◌, length}
-use Rattle.outcome.proofs.answers.print_tally.Given as goal
-
-abbrev pub invariant-loop-i : goal.invariant-loop-i
-invariant-loop-i g l = l.i ≤ length l.counts
-
-abbrev pub decreases-loop-i : goal.decreases-loop-i
-decreases-loop-i g l = length l.counts - l.i
