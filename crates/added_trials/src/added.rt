@@ -4,7 +4,7 @@ use crate::change::ChangeCounts;
 use changed_logs::{add_everywhere, label_bare};
 use judged_pairs::Pair;
 use random_inputs::Links;
-use std::io;
+use std::fmt;
 use trial::Random;
 
 // Of the logs with additions, and of those with first labels.
@@ -15,15 +15,8 @@ pub struct Counts {
 }
 
 impl Counts {
-    pub fn try_pairs(&mut self, pairs: u64) {
-        let mut random = Random::new(3);
-        for i in 0..pairs {
-            self.try_pair(i, &mut random);
-        }
-    }
-
     // The trial's index says how the links are drawn.
-    fn try_pair(&mut self, i: u64, random: &mut Random) {
+    pub fn try_pair(&mut self, i: u64, random: &mut Random) {
         let way = Links::WAYS.get((i % 6) as usize).copied();
         let pair = Pair::draw(1, way, random, |random| 1 + random.draw(40) as u16);
         let labels = pair.pattern.label_count();
@@ -38,12 +31,17 @@ impl Counts {
         self.added.compare(&pair, &more);
         self.labelled.compare(&pair, &labelled);
     }
+}
 
-    // The last line says whether first labels took a SOME away.
-    pub fn print(&self, rt: &impl Print) -> io::Result<()> {
-        self.added.print(rt, "the second only adds")?;
-        self.labelled.print(rt, "bare steps get labels")?;
+// The last line says whether first labels took a SOME away.
+impl fmt::Display for Counts {
+    fn fmt<W: fmt::Write>(&self, f: &mut fmt::Formatter<W>) -> fmt::Result {
+        self.added.list(f, "the second only adds")?;
+        self.labelled.list(f, "bare steps get labels")?;
         let lost = u64::from(self.labelled.lost.0 > 0);
-        println!(rt; "labels on bare steps made a SOME fail, 1 if more than none: {lost}")
+        writeln!(
+            f,
+            "labels on bare steps made a SOME fail, 1 if more than none: {lost}"
+        )
     }
 }

@@ -1,7 +1,7 @@
 // The judge on a log and on a changed one, with a pattern of one bead.
 use judged_pairs::{Noise, Pair};
 use places::Rule;
-use std::io;
+use std::fmt;
 use std::num::Wrapping;
 
 #[derive(Default, Drop)]
@@ -49,15 +49,20 @@ impl ChangeCounts {
         }
     }
 
-    pub fn print(&self, rt: &impl Print, how: &str) -> io::Result<()> {
-        println!(rt; "pairs of logs, {how}, one SOME bead: {}", self.some_pairs)?;
-        println!(rt; "rows compared: {}", self.some_rows)?;
-        println!(rt; "  rows at which SOME held: {}", self.held)?;
-        println!(rt; "  of these, failing in the second: {}", self.lost)?;
-        println!(rt; "pairs of logs, {how}, one ALL bead: {}", self.all_pairs)?;
-        println!(rt; "rows compared: {}", self.all_rows)?;
-        println!(rt; "  rows at which ALL failed: {}", self.failed)?;
-        println!(rt; "  of these, holding in the second: {}", self.gained)?;
-        println!(rt; "logs refused: {}", self.refused)
+    // `how` says what the second log has that the first has not.
+    pub fn list<W: fmt::Write>(&self, f: &mut fmt::Formatter<W>, how: &str) -> fmt::Result {
+        writeln!(
+            f,
+            "pairs of logs, {how}, one SOME bead: {}",
+            self.some_pairs
+        )?;
+        writeln!(f, "rows compared: {}", self.some_rows)?;
+        writeln!(f, "  rows at which SOME held: {}", self.held)?;
+        writeln!(f, "  of these, failing in the second: {}", self.lost)?;
+        writeln!(f, "pairs of logs, {how}, one ALL bead: {}", self.all_pairs)?;
+        writeln!(f, "rows compared: {}", self.all_rows)?;
+        writeln!(f, "  rows at which ALL failed: {}", self.failed)?;
+        writeln!(f, "  of these, holding in the second: {}", self.gained)?;
+        writeln!(f, "logs refused: {}", self.refused)
     }
 }

@@ -3,6 +3,7 @@
 #![tactic(auto)]
 
 use added::Counts;
+use judged_pairs::try_pairs;
 use std::io;
 
 mod added;
@@ -10,6 +11,6 @@ mod change;
 
 fn main(rt: HostRuntime) -> io::Result<()> {
     let mut counts = Counts::default();
-    counts.try_pairs(1600);
-    counts.print(&rt)
+    try_pairs(1600, 3, |i, random| counts.try_pair(i, random));
+    print!(rt; "{counts}")
 }

@@ -26,15 +26,11 @@ pub fn accepted(count: u16) -> Answer
     }
 }
 
+// The numbers 1 to 8 are a call's own, and no enum has them: each call's list of faults says them as numbers.
 pub fn refused(number: u16, line: u16) -> Answer
     ensures { result ≡ refused_at number line }
 {
-    Answer {
-        number,
-        line,
-        byte: 0,
-        count: 0,
-    }
+    refused_in(number, line, 0)
 }
 
 pub fn refused_in(number: u16, line: u16, byte: u16) -> Answer

@@ -1,5 +1,5 @@
 // Logs with more links or labels than a first.
-use crate::links::copy_links;
+use crate::links::merge_links;
 use places::LogRoom;
 use random_inputs::{any_below, one_below};
 use trial::Random;
@@ -15,7 +15,7 @@ pub fn add_everywhere(log: &LogRoom, label_count: u16, random: &mut Random) -> L
         };
         second.add_step(labels, random.draw(256) as u16);
         let extra = extra_link(log, w, random.draw(65536) as u16);
-        copy_links(log, w, extra, &mut second);
+        merge_links(log, w, extra, &mut second);
     }
     second
 }
@@ -40,7 +40,7 @@ pub fn label_bare(log: &LogRoom, label_count: u16, random: &mut Random) -> LogRo
             old => old,
         };
         second.add_step(labels, random.draw(256) as u16);
-        copy_links(log, w, None, &mut second);
+        merge_links(log, w, None, &mut second);
     }
     second
 }

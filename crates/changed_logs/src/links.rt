@@ -1,12 +1,10 @@
-// The links of a step, copied.
+// The links of a step, with one more among them.
 use places::LogRoom;
 
-// The links of step w, and a link from `extra` among them.
-pub fn copy_links(log: &LogRoom, w: u16, extra: Option<u16>, second: &mut LogRoom) {
+// Into the last step of the second log: the links that step w of the first has, and one from `extra`, in rising order, each once.
+pub fn merge_links(log: &LogRoom, w: u16, extra: Option<u16>, second: &mut LogRoom) {
     let links = log.links(w);
-    for p in 0..w {
-        if extra == Some(p) || links.contains(&p) {
-            second.add_link(p);
-        }
+    for from in (0..w).filter(|p| extra == Some(*p) || links.contains(p)) {
+        second.add_link(from);
     }
 }

@@ -1,5 +1,5 @@
 // A log that is alike to a first in the past of a step.
-use crate::links::copy_links;
+use crate::links::merge_links;
 use places::LogRoom;
 use random_inputs::{Labels, Shape, draw_step};
 use trial::Random;
@@ -56,7 +56,7 @@ pub fn change_beyond(
         let board = random.draw(256) as u16;
         if past.has(w) {
             second.add_step(log.labels(w), board);
-            copy_links(log, w, None, &mut second);
+            merge_links(log, w, None, &mut second);
         } else {
             draw_step(&mut second, w, anew, random);
         }

@@ -10,12 +10,12 @@ ghost use Rattle.layout.specs.Layout.{most_beads, most_labels, most_states, patt
 ghost use Rattle.pattern_buffer.specs.Meaning.{automaton_of};
 ghost use Rattle.entering.specs.Entering.{union_over, spread_over, Grown};
 
-// The value of each state, from the leaf.
+// The value of each state, from the leaf. Written by index: of a loop over `iter_mut().enumerate()` a proof knows no values.
 #[tactic(auto, using(lists::proofs::FilledLaws::kit))]
-pub fn state_values() -> [u16; 16]
+pub fn state_values() -> [u16; layout::MOST_STATES]
     ensures { Filled singleton 16 result }
 {
-    let mut values = [0u16; 16];
+    let mut values = [0u16; layout::MOST_STATES];
     for state in 0..16u16 {
         values[usize::from(state)] = sets::singleton(state);
     }
@@ -38,7 +38,7 @@ pub fn union_over(set: u16, list: &[u16], from: usize) -> u16
 {
     let values = state_values();
     let mut all = 0;
-    for i in 0..16 {
+    for i in 0..layout::MOST_STATES {
         let there = sets::overlaps(set, values[i]);
         all = sets::union(all, set_if(there, list[from + i]));
     }
@@ -53,13 +53,14 @@ pub fn spread(set: u16, more: u16, list: &mut [u16])
     ensures { Grown 16 (spread_over set more) list.old list.new }
 {
     let values = state_values();
-    for r in 0..16 {
+    for r in 0..layout::MOST_STATES {
         let there = sets::overlaps(set, values[r]);
         list[r] = sets::union(list[r], set_if(there, more));
     }
 }
 
-// A bead of a pattern buffer, by its place.
+// A bead of a pattern buffer, by its place. It holds the numbers and no `PatternNumbers`: that is made by a test of the length, as an `Option`,
+// and is not copied; a bead is of a buffer that has passed all tests, and each turn of a pass gets a copy.
 #[derive(Clone, Copy)]
 pub struct Bead<'a> {
     pub pattern: &'a [u16],
@@ -80,7 +81,7 @@ impl<'a> Bead<'a> {
     pub fn is_all(self) -> bool
         ensures { result ≡ eqb (at self.entry.pattern.now (rule_at self.entry.place)) 2 }
     {
-        self.pattern[layout::RULES + self.place] == 2
+        self.pattern[layout::RULES + self.place] == layout::ALL
     }
 
     // How many states it has.
@@ -97,20 +98,12 @@ impl<'a> Bead<'a> {
         self.pattern[layout::FINAL_SETS + self.place]
     }
 
-    // Where the next sets of a state begin, one a label.
-    fn nexts(self, state: usize) -> usize
-        requires { state < most_states }
-        ensures { result ≡ next_at self.entry.place state 0 }
-    {
-        layout::NEXT_SETS + layout::SETS_A_BEAD * self.place + layout::SETS_A_STATE * state
-    }
-
     // The next set of a state at a label.
     pub fn next(self, state: usize, label: usize) -> u16
         requires { (state < most_states) × (label < most_labels) }
         ensures { result ≡ at self.entry.pattern.now (next_at self.entry.place state label) }
     {
-        self.pattern[self.nexts(state) + label]
+        self.pattern[layout::next_sets_at(self.place, state) + label]
     }
 
     // The states to which entering a vertex with these labels leads from a state: the state itself where there are none.
@@ -122,6 +115,7 @@ impl<'a> Bead<'a> {
         if labels == 0 {
             return sets::singleton(state);
         }
-        union_over(labels, self.pattern, self.nexts(usize::from(state)))
+        let nexts = layout::next_sets_at(self.place, usize::from(state));
+        union_over(labels, self.pattern, nexts)
     }
 }

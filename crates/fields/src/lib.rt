@@ -26,7 +26,8 @@ pub fn field_count(line: &[u8], separator: u8) -> usize
     line.iter().filter(|b| **b == separator).count() + 1
 }
 
-// Where the field with this index begins and ends, if there is one; the first has index 0.
+// Where the field with this index begins and ends, if there is one; the first has index 0. The place goes on by a field's length, so the `for`
+// counts fields alone.
 #[tactic(auto, using(crate::proofs::FieldLaws::field_kit))]
 pub fn find_field(line: &[u8], separator: u8, index: usize) -> Option<(usize, usize)>
     ensures { result ≡ field_of separator line.now index }

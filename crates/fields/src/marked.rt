@@ -5,7 +5,8 @@ ghost use Rattle.fields.specs.Fields.{part_at, Marked};
 
 use crate::{find_field, first_length};
 
-// How many fields the line has, and where each begins; last the place behind the line's end. What there is no room for is left out.
+// How many fields the line has, and where each begins; last the place behind the line's end. What there is no room for is left out. There is no heap: the places are an array, and the count
+// may be past them.
 #[derive(Clone, Copy)]
 pub struct Fields<'a, const N: usize> {
     pub line: &'a [u8],
@@ -69,7 +70,7 @@ impl<'a, const N: usize> Fields<'a, N> {
     }
 }
 
-// Puts down a number, if there is room.
+// Puts down a number, if there is room. By `get_mut`, as at `log_line`'s `keep`, what stands there afterwards is not found.
 #[tactic(auto, using(crate::proofs::MarkLaws::mark_kit))]
 fn mark(marks: &mut [usize], place: usize, at: usize)
     ensures { marks.new ≡ set marks.old place at }

@@ -28,6 +28,7 @@ fn judge(rt: &(impl Files + Print), pattern_name: &[u8], log_name: &[u8]) -> io:
         pattern: pattern_name,
         log: log_name,
     };
+    // The arrays of the program `judge`, with the lengths that document 01 has in its `main`.
     let mut rooms = Rooms {
         pattern_text: [0; 16385],
         log_text: [0; 65536],

@@ -23,12 +23,12 @@ fn onward(bead: Bead, state: usize) -> u16
     all
 }
 
-// The same for each state of a bead.
+// The same for each state of a bead, by index, as `entering::state_values`.
 #[tactic(auto, using(lists::proofs::FilledLaws::kit))]
-fn all_onward(bead: Bead) -> [u16; 16]
+fn all_onward(bead: Bead) -> [u16; layout::MOST_STATES]
     ensures { Filled (onward_from bead.entry.pattern.now bead.entry.place) 16 result }
 {
-    let mut onwards = [0u16; 16];
+    let mut onwards = [0u16; layout::MOST_STATES];
     for state in 0..layout::MOST_STATES {
         onwards[state] = onward(bead, state);
     }
@@ -37,7 +37,7 @@ fn all_onward(bead: Bead) -> [u16; 16]
 
 // The states with a next state in the set. The values are laid out before the loop: the compiler then looks at all states at once.
 #[tactic(auto, using(crate::proofs::HopeLaws::leading_kit))]
-fn leading(onwards: &[u16; 16], set: u16) -> u16
+fn leading(onwards: &[u16; layout::MOST_STATES], set: u16) -> u16
     ensures { result ≡ set_of 16 (leads_into onwards.now set) }
 {
     let values = entering::state_values();
@@ -52,7 +52,7 @@ fn leading(onwards: &[u16; 16], set: u16) -> u16
 
 // The set grown by the states that lead into it until nothing is added. 16 rounds are enough; were they not, all states would be given.
 #[tactic(auto, using(crate::proofs::HopeLaws::grown_kit))]
-fn grown(onwards: &[u16; 16], first: u16) -> u16
+fn grown(onwards: &[u16; layout::MOST_STATES], first: u16) -> u16
     ensures { Closed onwards.now first result }
 {
     let mut set = first;
@@ -75,7 +75,7 @@ fn hopeful(bead: Bead) -> u16
     grown(&all_onward(bead), bead.accepting())
 }
 
-// The same for each bead of the pattern.
+// The same for each bead of the pattern, by its place.
 #[tactic(auto, using(crate::proofs::HopeLaws::hopes_kit))]
 pub fn fill_hopes(pattern: &[u16], hopes: &mut [u16])
     requires all_beads { AllBeads pattern.now }

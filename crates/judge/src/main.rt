@@ -9,6 +9,7 @@ fn main(rt: HostRuntime) -> io::Result<()> {
         pattern: b"pattern.txt",
         log: b"log.txt",
     };
+    // Document 01's form: the arrays, of these lengths, stand in `main`.
     let mut rooms = Rooms {
         pattern_text: [0; 16385],
         log_text: [0; 65536],

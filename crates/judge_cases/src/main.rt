@@ -11,19 +11,14 @@
 use answer::Answer;
 use outcome::{is_marked, is_marked_from, marked, print_claim, sum_of_sums};
 use settings::Settings;
+use std::io;
 use std::rt::Files;
-use std::{fs, io};
 use trial::column;
 
 mod result_rows;
 
 fn main(rt: HostRuntime) -> io::Result<()> {
-    let file = fs::read_to_string(&rt, "cases.txt")?;
-    let mut tally = outcome::Tally::new(rt.alloc());
-    for line in file.lines() {
-        tally.add(try_case(&rt, line)?)?;
-    }
-    print!(rt; "{tally}")
+    outcome::try_cases(&rt, "cases.txt", |line| try_case(&rt, line))
 }
 
 // Reads both texts, damages what they gave, and judges it, up to the first refusal.
@@ -34,7 +29,7 @@ fn try_case(rt: &(impl Files + Print + AllocGlobal), line: &str) -> io::Result<u
     let text = script::load(rt, column(line, 1), "pattern.txt", 17000)?;
     let mut pattern = marked(rt.alloc(), 2080)?;
     let answer = pattern::read_pattern(&text, &mut pattern);
-    if answer.number > 0 {
+    if !answer.is_accepted() {
         return print_refused(rt, "pattern reader", answer, &pattern);
     }
 
@@ -42,7 +37,7 @@ fn try_case(rt: &(impl Files + Print + AllocGlobal), line: &str) -> io::Result<u
     let labels = settings.value('c').unwrap_or(trial::get(&pattern, 0));
     let mut log = marked(rt.alloc(), 7176)?;
     let answer = log_reader::read_log(&text, labels, &mut log);
-    if answer.number > 0 {
+    if !answer.is_accepted() {
         return print_refused(rt, "log reader", answer, &log);
     }
 
@@ -78,7 +73,7 @@ fn try_judge(
         &mut work[..work_lent],
     );
     outcome::print_answer(rt, "judge", answer)?;
-    if answer.number > 0 {
+    if !answer.is_accepted() {
         print_claim(rt, "; result kept", is_marked(&result))?;
         print_claim(rt, ", work kept", is_marked(&work))?;
     } else {

@@ -22,10 +22,7 @@ pub fn print_rows(rt: &impl Print, steps: u16, res: &[u16]) -> io::Result<()> {
 fn print_row(rt: &impl Print, v: usize, row: &[u16]) -> io::Result<()> {
     print!(rt; " {v}")?;
     let last_used = row.iter().rposition(|n| *n != 0).unwrap_or(0);
-    for (i, n) in row.iter().enumerate() {
-        if i > last_used {
-            break;
-        }
+    for (i, n) in row.iter().enumerate().take(last_used + 1) {
         let sign = if i < 2 { ':' } else { ',' };
         print!(rt; "{sign}{n}")?;
     }

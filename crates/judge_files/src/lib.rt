@@ -1,7 +1,7 @@
 // The body of the program `judge`: two files in, and all that is to be printed out, as bytes.
 #![tactic(auto)]
 
-ghost use Rattle.std.specs.Prelude.{◌≡◌, get_or};
+ghost use Rattle.std.specs.Prelude.{◌≡◌};
 ghost use Rattle.pattern_buffer.specs.Meaning.{beads_in};
 ghost use Rattle.log_buffer.specs.Meaning.{steps_in};
 ghost use Rattle.report.specs.Report.{output_text};
@@ -13,9 +13,9 @@ use loading::load;
 use std::rt::Files;
 
 // A text buffer is a byte longer than the longest text, so that a text that is too long is seen.
-pub const PATTERN_TEXT_ROOM: usize = 16385;
+pub const PATTERN_TEXT_ROOM: usize = layout::MOST_PATTERN_TEXT + 1;
 
-pub const LOG_TEXT_ROOM: usize = 65536;
+pub const LOG_TEXT_ROOM: usize = layout::MOST_LOG_TEXT + 1;
 
 // More than all that can be printed.
 pub const OUTPUT_ROOM: usize = 65536;
@@ -39,7 +39,8 @@ pub struct Rooms {
     pub output: [u8; OUTPUT_ROOM],
 }
 
-// The answer, and how many bytes of the output there are to print.
+// The answer, and how many bytes of the output there are to print. A slice of the output was tried in place of the number: lent on
+// in the answer it leaves no `rooms.new`, so that no clause could say what the rooms hold.
 #[derive(Clone, Copy)]
 pub struct Printed {
     pub answer: Answer,
@@ -107,22 +108,16 @@ fn read_pattern_file(rt: &impl Files, name: &[u8], text: &mut [u8], pattern: &mu
     pattern::read_pattern(&text[..n], pattern)
 }
 
+// Under the label count of a pattern.
 fn read_log_file(
     rt: &impl Files,
     name: &[u8],
     text: &mut [u8],
-    pattern: &[u16],
+    pattern: &[u16; layout::PATTERN_LENGTH],
     log: &mut [u16],
 ) -> Answer
     ensures { LogRead text.new pattern.now log.old result log.new }
 {
     let n = load(rt, name, text);
-    log_reader::read_log(&text[..n], label_count(pattern), log)
-}
-
-// How many labels an accepted pattern has.
-fn label_count(pattern: &[u16]) -> u16
-    ensures { result ≡ get_or pattern.now 0 0 }
-{
-    pattern.first().copied().unwrap_or(0)
+    log_reader::read_log(&text[..n], pattern[0], log)
 }

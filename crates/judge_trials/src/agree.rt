@@ -21,15 +21,8 @@ pub struct Counts {
 }
 
 impl Counts {
-    pub fn try_pairs(&mut self, pairs: u64) {
-        let mut random = Random::new(1);
-        for i in 0..pairs {
-            self.try_pair(i, &mut random);
-        }
-    }
-
     // The trial's index says how many beads, and how the links are drawn.
-    fn try_pair(&mut self, i: u64, random: &mut Random) {
+    pub fn try_pair(&mut self, i: u64, random: &mut Random) {
         let beads = (i % 8) as usize;
         let links = (i / 8 % 6) as usize;
         self.pairs += 1;
@@ -67,7 +60,8 @@ impl Counts {
     }
 }
 
-// At most 6 steps, 41 to 120 steps, or up to 40.
+// At most 6 steps, 41 to 120 steps, or up to 40. The kind is the trial's index, a number: an enum would need a table from index to kind
+// beside this one from kind to count.
 fn step_count(kind: u64, x: u16) -> u16 {
     match kind {
         0 | 1 => 1 + x % 6,

@@ -3,6 +3,7 @@
 #![tactic(auto)]
 
 use agree::Counts;
+use judged_pairs::try_pairs;
 use std::io;
 
 mod agree;
@@ -10,6 +11,6 @@ mod report;
 
 fn main(rt: HostRuntime) -> io::Result<()> {
     let mut counts = Counts::default();
-    counts.try_pairs(3200);
-    counts.print(&rt)
+    try_pairs(3200, 1, |i, random| counts.try_pair(i, random));
+    print!(rt; "{counts}")
 }

@@ -1,7 +1,7 @@
-// The counts as lines, each with its name.
+// The counts as lines, each with its name: an array of names beside one of counts, in one order, since both are indexed by what is drawn.
 use crate::agree::Counts;
 use row_counts::RowCounts;
-use std::io;
+use std::fmt;
 use std::num::Wrapping;
 
 const LOGS: [&str; 6] = [
@@ -13,41 +13,52 @@ const LOGS: [&str; 6] = [
     "with all of these",
 ];
 
-impl Counts {
-    pub fn print(&self, rt: &impl Print) -> io::Result<()> {
-        println!(rt; "patterns and logs judged by both: {}", self.pairs)?;
-        print_lengths(rt, "patterns with beads", &self.beads)?;
+impl fmt::Display for Counts {
+    fn fmt<W: fmt::Write>(&self, f: &mut fmt::Formatter<W>) -> fmt::Result {
+        writeln!(f, "patterns and logs judged by both: {}", self.pairs)?;
+        list_lengths(f, "patterns with beads", &self.beads)?;
         for (name, count) in LOGS.iter().zip(&self.links) {
-            println!(rt; "  logs {name}: {count}")?;
+            writeln!(f, "  logs {name}: {count}")?;
         }
-        println!(rt; "rows: {}", self.rows)?;
-        print_shown(rt, &self.shown)?;
-        println!(rt; "pairs refused: {}", self.refused)?;
-        println!(rt; "numbers of the result that differ: {}", self.differing)?;
-        println!(rt; "counts that differ: {}", self.wrong_count)?;
-        println!(rt;
+        writeln!(f, "rows: {}", self.rows)?;
+        list_shown(f, &self.shown)?;
+        writeln!(f, "pairs refused: {}", self.refused)?;
+        writeln!(f, "numbers of the result that differ: {}", self.differing)?;
+        writeln!(f, "counts that differ: {}", self.wrong_count)?;
+        writeln!(
+            f,
             "work buffers left with another number than 0: {}",
             self.not_cleared
         )?;
-        println!(rt;
+        writeln!(
+            f,
             "rows with pivots picked from the front: {}",
             self.shown.front_chosen
         )
     }
 }
 
-fn print_shown(rt: &impl Print, shown: &RowCounts) -> io::Result<()> {
-    print_lengths(rt, "rows with the prefix of length", &shown.prefixes)?;
-    print_lengths(rt, "whole necklaces of length", &shown.whole)?;
-    println!(rt; "  rows with other pivots from the front: {}", shown.front)?;
-    println!(rt; "  rows in which a pivot stands twice: {}", shown.twice)?;
-    println!(rt; "  rows of step 0 with a prefix: {}", shown.start)
+// All but the last of the counts of rows: that one stands at the end of the report.
+fn list_shown<W: fmt::Write>(f: &mut fmt::Formatter<W>, shown: &RowCounts) -> fmt::Result {
+    list_lengths(f, "rows with the prefix of length", &shown.prefixes)?;
+    list_lengths(f, "whole necklaces of length", &shown.whole)?;
+    writeln!(
+        f,
+        "  rows with other pivots from the front: {}",
+        shown.front
+    )?;
+    writeln!(f, "  rows in which a pivot stands twice: {}", shown.twice)?;
+    writeln!(f, "  rows of step 0 with a prefix: {}", shown.start)
 }
 
 // A line for each length, from 1 on.
-fn print_lengths(rt: &impl Print, name: &str, counts: &[Wrapping<u64>]) -> io::Result<()> {
+fn list_lengths<W: fmt::Write>(
+    f: &mut fmt::Formatter<W>,
+    name: &str,
+    counts: &[Wrapping<u64>],
+) -> fmt::Result {
     for (length, count) in (1u64..).zip(counts) {
-        println!(rt; "  {name} {length}: {count}")?;
+        writeln!(f, "  {name} {length}: {count}")?;
     }
     Ok(())
 }

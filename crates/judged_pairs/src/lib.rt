@@ -1,10 +1,22 @@
 // What the trials of the judge share: a pattern and a log drawn, and the library's judge on them.
 #![tactic(auto)]
 
+ghost use Rattle.std.specs.Prelude.{ℕ, ◌<◌};
+
 use answer::Answer;
 use places::{LogRoom, PatternRoom, fill_noise};
 use random_inputs::{Labels, Links, Shape, draw_log, draw_pattern};
 use trial::Random;
+
+// Tries this many pairs one after the other, each by its index, with numbers drawn from a seed.
+pub fn try_pairs<F: FnMut(u64, &mut Random)>(pairs: u64, seed: u64, mut try_pair: F)
+    requires { (state : F) (i : ℕ) → i < pairs → (random : _) → F.pre state i random }
+{
+    let mut random = Random::new(seed);
+    for i in 0..pairs {
+        try_pair(i, &mut random);
+    }
+}
 
 #[derive(Clone, Copy)]
 pub struct Pair {
@@ -65,7 +77,7 @@ impl Pair {
 
 impl Judged {
     pub fn is_refused(&self) -> bool {
-        self.answer.number != 0
+        !self.answer.is_accepted()
     }
 }
 

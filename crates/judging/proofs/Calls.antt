@@ -1,29 +1,22 @@
 -- What it says of a call that it is accepted: the tests that it passed, and the rows that it leaves.
 -- Assumes nothing.
-use Prim.Native.Nat.{ℕ, zero, suc, ◌+◌, ◌-◌, ◌*◌, ◌≤◌, ◌<◌}
-use mathlib.Core.Path.{◌≡◌, refl, sym, ap, ap₂, ◌∙◌, subst}
-use mathlib.Core.Bool.{Bool, false, not, cond}
-use mathlib.Core.List.{List, [], ◌∷◌, ◌++◌, append_assoc}
-use mathlib.Core.Logic.{◌⊎◌, inl, inr}
-use native.Mathlib.Nat.{eq-or-lt_of_le}
-use native.Mathlib.Omega.{arith}
-use borrow.Author.Tests.{ltb-false, lt-ltb, le-ltb, not-false}
-use lib.Dec.{T, eqb, ltb}
-use lib.ListN.{length, get_or, take, drop, replicate, length-append}
-use lib.Seq.{take-append-le, drop-append-le, drop_at, take_at}
+use Prim.Native.Nat.{ℕ, ◌-◌, ◌*◌, ◌≤◌, ◌<◌}
+use mathlib.Core.Path.{◌≡◌, refl, sym, ap, ◌∙◌, subst}
+use mathlib.Core.Bool.{Bool, false, not}
+use mathlib.Core.List.{List, ◌++◌, append_assoc}
+use borrow.Author.Tests.{ltb-false, le-ltb, not-false}
+use lib.Dec.{T, eqb}
+use lib.ListN.{length, take, drop, replicate}
 use Rattle.sets.proofs.Truth.{true_yes, yes_true}
 use Rattle.answer.specs.declared.Answer.{Answer}
 use Rattle.answer.specs.Answers.{accepted_with}
 use Rattle.answer.specs.Faults.{Fault}
 use Rattle.answer.proofs.FaultLaws.{Passed, passed_later, passed_all as none_left, passed_first, passed_others, answer_accepted as accepted_answer, room_filled, numbered, accepted_passed}
-use Rattle.necklace.specs.Dag.{Dag}
-use Rattle.necklace.specs.Necklace.{Pattern}
-use Rattle.necklace.specs.Compute.{holds?, row}
+use Rattle.necklace.specs.Compute.{row}
 use Rattle.results.proofs.RowPlaces.{row_there}
 use Rattle.layout.specs.Layout.{pattern_length, log_length, result_length, work_length, row_length}
-use Rattle.pattern_buffer.specs.Meaning.{pattern_of, labels_in}
+use Rattle.pattern_buffer.specs.Meaning.{labels_in}
 use Rattle.pattern_buffer.specs.Valid.{is_pattern}
-use Rattle.log_buffer.specs.Meaning.{log_of}
 use Rattle.log_buffer.specs.Valid.{is_log}
 use Rattle.judging.specs.Judge.{pattern_in, log_in, judge_faults, judge_answer, accepts, result_after, work_after}
 use Rattle.results.specs.Result.{rows_up_to, whole_up_to, rows_of, zeros, row_in}

@@ -1,14 +1,14 @@
 -- Tests 6 and 7 before the judging.
 -- Assumes nothing.
 use Prim.Native.Nat.{ℕ}
-use mathlib.Core.Path.{◌≡◌, refl, sym, ap, ◌∙◌}
+use mathlib.Core.Path.{◌≡◌, sym, ap, ◌∙◌}
 use mathlib.Core.Bool.{Bool, true}
 use mathlib.Core.List.{List}
-use lib.Dec.{T}
-use lib.ListN.{length, get_or, replicate}
+use lib.ListN.{get_or, replicate}
 use Rattle.sets.proofs.Truth.{true_yes}
 use Rattle.answer.specs.declared.Answer.{Answer}
 use Rattle.answer.specs.Answers.{accepted_with}
+use Rattle.answer.proofs.FaultSteps.{fault_steps}
 use Rattle.pattern_buffer.specs.Meaning.{labels_in}
 use Rattle.pattern_buffer.specs.Valid.{is_pattern}
 use Rattle.log_buffer.specs.Valid.{is_log}
@@ -28,4 +28,4 @@ pub cleared : (exit : List ℕ) (n : ℕ) → exit ≡ replicate n 0 → exit �
 unfolding zeros
 cleared exit n e = e
 
-pub ruleset fit_kit = (both_tried, counted, cleared)
+pub ruleset fit_kit = (fault_steps, both_tried, counted, cleared)

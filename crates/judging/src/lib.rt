@@ -8,24 +8,24 @@ ghost use Rattle.judging.specs.Fit.{fit_answer, fit_result, fit_work};
 use answer::Answer;
 
 // Tests 6 and 7, and the judging, on buffers of their documented lengths.
+#[tactic(auto, using(crate::proofs::FitLaws::fit_kit))]
 fn judge_fit(pattern: &[u16], log: &[u16], res: &mut [u16], work: &mut [u16]) -> Answer
     requires { (0 < length pattern.now) × (10240 ≤ length res.old) × (length work.old ≡ 16384) }
     ensures value { result ≡ fit_answer pattern.now log.now }
     ensures res_after { res.new ≡ fit_result pattern.now log.now res.old }
     ensures work_after { work.new ≡ fit_work pattern.now log.now work.old }
 {
-    let known = pattern_test::is_pattern(pattern);
-    if known {
-        let fits = log_test::is_log(log, pattern[0]);
-        if fits {
-            return answer::accepted(results::judge_tried(pattern, log, res, work));
-        }
+    if !pattern_test::is_pattern(pattern) {
+        return answer::refused(6, 0);
+    }
+    if !log_test::is_log(log, pattern[0]) {
         return answer::refused(7, 0);
     }
-    answer::refused(6, 0)
+    answer::accepted(results::judge_tried(pattern, log, res, work))
 }
 
 // Judges a log by a pattern: fills one row for each step.
+#[tactic(auto, using(answer::proofs::FaultSteps::fault_steps))]
 pub fn judge(pattern: &[u16], log: &[u16], res: &mut [u16], work: &mut [u16]) -> Answer
     ensures value { result ≡ judge_answer pattern.now log.now res.old work.old }
     ensures res_after { res.new ≡ result_after pattern.now log.now res.old work.old }

@@ -1,4 +1,5 @@
 // The work buffer of sixteen forward passes: for each step and state the set of the lanes, of sixteen, that are in the state there.
+// Rooms are slices of at least so many numbers, as each contract says: an array, or a struct with the bound, would take fewer or be made anew at each call.
 #![tactic(auto)]
 
 ghost use Rattle.std.specs.Prelude.{◌<◌, ◌≤◌, length};
@@ -10,10 +11,10 @@ ghost use Rattle.lanes.specs.Lanes.{lanes_at, Gathered, PutTo, BegunAt};
 
 use log_links::Log;
 
-// Adds the lanes of the step w, state by state.
+// Adds the lanes of the step w, state by state. By index, as `entering::state_values`.
 #[tactic(auto, using(crate::proofs::GatherLaws::step_kit))]
-fn add_step(work: &[u16], w: usize, here: &mut [u16])
-    requires { (w < most_steps) × (work_length ≤ length work.now) × (16 ≤ length here.old) }
+fn add_step(work: &[u16], w: usize, here: &mut [u16; layout::MOST_STATES])
+    requires { (w < most_steps) × (work_length ≤ length work.now) }
     ensures { Grown 16 (lanes_at work.now w) here.old here.new }
 {
     for q in 0..layout::MOST_STATES {
@@ -22,12 +23,12 @@ fn add_step(work: &[u16], w: usize, here: &mut [u16])
 }
 
 // The lanes of the listed steps, state by state. A step that lies before the first one of the pass has none.
-fn gather(links: &[u16], first: usize, work: &[u16]) -> [u16; 16]
+fn gather(links: &[u16], first: usize, work: &[u16]) -> [u16; layout::MOST_STATES]
     requires inside { Inside most_steps links.now }
     requires work_length_in_bounds { work_length ≤ length work.now }
     ensures { Gathered work.now first links.now result }
 {
-    let mut here = [0u16; 16];
+    let mut here = [0u16; layout::MOST_STATES];
     for link in links {
         let w = usize::from(*link);
         if first <= w {
@@ -38,7 +39,7 @@ fn gather(links: &[u16], first: usize, work: &[u16]) -> [u16; 16]
 }
 
 // The lanes of the predecessors of the step x.
-pub fn before(log: Log, x: usize, first: usize, work: &[u16]) -> [u16; 16]
+pub fn before(log: Log, x: usize, first: usize, work: &[u16]) -> [u16; layout::MOST_STATES]
     requires { (x < steps_in log.numbers.now) × (work_length ≤ length work.now) }
     ensures { Gathered work.now first (links_into log.entry.numbers.now x) result }
 {

@@ -1,9 +1,15 @@
 // The numbers of the two formats and of the lent buffers, each under its name. The definitions have the same numbers (`specs/Layout.antt`).
+// A constant is of one type: a number of 16 bits is compared with a literal where its limit is a `usize` here.
 #![tactic(auto)]
+
+ghost use Rattle.std.specs.Prelude.{◌≡◌, ◌<◌};
+ghost use Rattle.layout.specs.Layout.{most_beads, most_states, next_at};
 
 // ---- limits
 
 pub const MOST_LABELS: usize = 16;
+
+pub const MOST_BEADS: usize = 8;
 
 pub const MOST_STATES: usize = 16;
 
@@ -14,6 +20,8 @@ pub const MOST_LINKS: usize = 4096;
 // Links in one line.
 pub const MOST_PREDS: usize = 8;
 
+pub const MOST_BOARD: u16 = 255;
+
 // Bytes of a text, of a line without its newline, of a label's name.
 pub const MOST_PATTERN_TEXT: usize = 16384;
 
@@ -22,6 +30,12 @@ pub const MOST_LOG_TEXT: usize = 65535;
 pub const MOST_LINE: usize = 240;
 
 pub const MOST_NAME: usize = 12;
+
+// ---- the rules, as the pattern buffer has them
+
+pub const SOME: u16 = 1;
+
+pub const ALL: u16 = 2;
 
 // ---- where the parts of the pattern buffer begin, and its length
 
@@ -39,6 +53,17 @@ pub const PATTERN_LENGTH: usize = 2074;
 pub const SETS_A_BEAD: usize = 256;
 
 pub const SETS_A_STATE: usize = 16;
+
+// States of all beads, there or not.
+pub const ALL_STATES: usize = 128;
+
+// Where the next sets of a state begin, one a label.
+pub fn next_sets_at(bead: usize, state: usize) -> usize
+    requires { (bead < most_beads) × (state < most_states) }
+    ensures { result ≡ next_at bead state 0 }
+{
+    NEXT_SETS + SETS_A_BEAD * bead + SETS_A_STATE * state
+}
 
 // ---- where the parts of the log buffer begin, and its length
 

@@ -5,7 +5,7 @@ use mathlib.Core.Bool.{Bool, true, false, cond, ◌&&◌}
 use mathlib.Core.List.{List, [], ◌∷◌, map}
 use Prim.Native.Nat.{ℕ, zero, suc, ◌+◌, ◌-◌, ◌≤◌, ◌<◌}
 use native.Mathlib.Omega.{arith}
-use borrow.Author.Tests.{le-leb, lt-leb, lt-ltb, le-ltb, ltb-true, ltb-false, leb-true, not-true, not-false}
+use borrow.Author.Tests.{le-leb, lt-leb, lt-ltb, le-ltb, ltb-true, ltb-false, not-true, not-false}
 use lib.Dec.{leb, ltb}
 use lib.ListN.{length, get_or, take, drop, length-append, length-drop, drop_of_length-le}
 use lib.Seq.{length-take-le, take_all, drop-drop}
@@ -19,7 +19,7 @@ use Rattle.fields.specs.Fields.{part_start, field_of}
 use Rattle.std.specs.Prelude.{Option, Some, None, Result, Ok, Err}
 use Rattle.fields.proofs.FieldLaws.{Selects, field_selects, field_missing}
 use Rattle.fields.proofs.PlaceLaws.{start_none, start_next}
-use Rattle.line_places.specs.Place.{unprintable_at, unprintable_place, broken_at, ranked_at, line_at, ended_line, as_whole, found_line, lines_bytes}
+use Rattle.line_places.specs.Place.{as_place, unprintable_at, unprintable_place, broken_at, ranked_at, line_at, ended_line, as_whole, found_line, lines_bytes}
 
 -- ---- the parts of a text at newlines are its lines
 
@@ -173,8 +173,6 @@ module _ (text : List ℕ) (n : ℕ) (r : Option (ℕ × ℕ)) (given : r ≡ en
         made : (l : TextLine) → l.bytes ≡ take (y - x) (drop x text) → l.newline ≡ true → l ≡ record { bytes = take (y - x) (drop x text); newline = true }
         made l e f = rw (sym e, sym f) refl
 
-pub ruleset found_kit = (lacks_newline, line_ordered, line_inside, line_is)
-
 -- ---- whole or not
 
 printable_clean : (bs : List ℕ) → ((i : ℕ) → i < length bs → printable_byte (get_or bs i 0) ≡ true) → printable bs ≡ true
@@ -230,14 +228,24 @@ module _ (bs : List ℕ) where
       go true p = let l = ltb-true first (length bs) p in omega arith
       go false p = omega arith
 
+bad_place : (q i : ℕ) → Some i ≡ as_place q → 0 < q
+unfolding as_place
+bad_place zero i e = let z : ◌≡◌ {A = ℕ} 0 1 = cc in absurd (omega arith)
+bad_place (suc q) i e = omega arith
+
+no_place : (q : ℕ) → None ≡ as_place q → q ≡ 0
+unfolding as_place
+no_place zero e = refl
+no_place (suc q) e = let z : ◌≡◌ {A = ℕ} 0 1 = cc in absurd (omega arith)
+
 module _ (most : ℕ) (text : List ℕ) (n : ℕ) (r : Option (ℕ × ℕ)) (given : r ≡ ended_line text n) where
-  pub found_missing : r ≡ None → Err 0 ≡ found_line most text n
-  unfolding found_line
+  pub found_missing : r ≡ None → Err None ≡ found_line most text n
+  unfolding found_line as_place
   found_missing p =
       let e = lacks_newline text n r given p in
       sym (rw e (same (leb (length (line_at text n).bytes) most)))
     where
-      same : (t : Bool) → cond (t && (false && printable (line_at text n).bytes)) (as_whole (ended_line text n)) (Err (cond (t && false) (unprintable_place (line_at text n).bytes) 0)) ≡ Err 0
+      same : (t : Bool) → cond (t && (false && printable (line_at text n).bytes)) (as_whole (ended_line text n)) (Err (as_place (cond (t && false) (unprintable_place (line_at text n).bytes) 0))) ≡ Err None
       same true = refl
       same false = refl
 
@@ -252,41 +260,41 @@ module _ (most : ℕ) (text : List ℕ) (n : ℕ) (r : Option (ℕ × ℕ)) (giv
         let d = length-drop x text in
         length-take-le (y - x) (drop x text) (omega arith)
 
-    pub found_long : most < y - x → Err 0 ≡ found_line most text n
-    unfolding found_line
+    pub found_long : most < y - x → Err None ≡ found_line most text n
+    unfolding found_line as_place
     found_long h =
         let s = size in
         sym (rw (line_is text n r given x y p) (simp (lt-leb (length (take (y - x) (drop x text))) most (omega arith))))
 
-    module _ (q : ℕ) (found : q ≡ unprintable_place (take (y - x) (drop x text))) (h : y - x ≤ most) where
+    module _ (q : Option ℕ) (found : q ≡ as_place (unprintable_place (take (y - x) (drop x text)))) (h : y - x ≤ most) where
       short : leb (length (take (y - x) (drop x text))) most ≡ true
       short = let s = size in le-leb (length (take (y - x) (drop x text))) most (omega arith)
 
-      pub found_unprintable : 0 < q → Err q ≡ found_line most text n
+      pub found_unprintable : (i : ℕ) → q ≡ Some i → Err (Some i) ≡ found_line most text n
       unfolding found_line
-      found_unprintable k =
-          ap Err found
-          ∙ sym (rw (line_is text n r given x y p) (simp (short, place_unprintable (take (y - x) (drop x text)) (let e = found in omega arith))))
+      found_unprintable i k =
+          ap Err (sym k ∙ found)
+          ∙ sym (rw (line_is text n r given x y p) (simp (short, place_unprintable (take (y - x) (drop x text)) (bad_place (unprintable_place (take (y - x) (drop x text))) i (sym k ∙ found)))))
 
-      pub found_whole : q ≤ 0 → Ok (x, y) ≡ found_line most text n
+      pub found_whole : q ≡ None → Ok (x, y) ≡ found_line most text n
       unfolding found_line
       found_whole k =
           ap as_whole (sym p ∙ given)
-          ∙ sym (rw (line_is text n r given x y p) (simp (short, place_printable (take (y - x) (drop x text)) (let e = found in omega arith))))
+          ∙ sym (rw (line_is text n r given x y p) (simp (short, place_printable (take (y - x) (drop x text)) (no_place (unprintable_place (take (y - x) (drop x text))) (sym k ∙ found)))))
 
 pub ruleset inspect_kit = (line_ordered, line_inside, found_missing, found_long, found_unprintable, found_whole)
 
 -- ---- what the answer of `inspect_line` tells
 
-module _ (most : ℕ) (text : List ℕ) (n : ℕ) (r : Result (ℕ × ℕ) ℕ) (given : r ≡ found_line most text n) where
-  pub ranked_broken : (p in_fields : ℕ) → r ≡ Err p → p ≡ ranked_at most (line_at text n) in_fields
+module _ (most : ℕ) (text : List ℕ) (n : ℕ) (r : Result (ℕ × ℕ) (Option ℕ)) (given : r ≡ found_line most text n) where
+  pub ranked_broken : (p : Option ℕ) (in_fields : ℕ) → r ≡ Err p → p ≡ as_place (ranked_at most (line_at text n) in_fields)
   unfolding found_line ranked_at
   ranked_broken p in_fields q = go (whole most (line_at text n)) refl (line_at text n).newline refl (sym q ∙ given)
     where
-      none : ended_line text n ≡ None → (line_at text n).newline ≡ true → p ≡ in_fields
+      none : ended_line text n ≡ None → (line_at text n).newline ≡ true → p ≡ as_place in_fields
       none e f = clash (line_at text n).newline f (lacks_newline text n None (sym e) refl)
 
-      asked : (x : Option (ℕ × ℕ)) → ended_line text n ≡ x → whole most (line_at text n) ≡ true → Err p ≡ as_whole x → p ≡ in_fields
+      asked : (x : Option (ℕ × ℕ)) → ended_line text n ≡ x → whole most (line_at text n) ≡ true → Err p ≡ as_whole x → p ≡ as_place in_fields
       asked (Some (x, y)) e w z = let k : ◌≡◌ {A = ℕ} 0 1 = cc in absurd (omega arith)
       asked None e w z = none e (newline_of (leb (length (line_at text n).bytes) most) (line_at text n).newline (printable (line_at text n).bytes) w)
         where
@@ -297,10 +305,10 @@ module _ (most : ℕ) (text : List ℕ) (n : ℕ) (r : Result (ℕ × ℕ) ℕ) 
           newline_of false false c w = w
 
       go : (t : Bool) → whole most (line_at text n) ≡ t → (u : Bool) → (line_at text n).newline ≡ u
-          → Err p ≡ cond t (as_whole (ended_line text n)) (Err (broken_at most (line_at text n)))
-          → p ≡ cond (whole most (line_at text n)) in_fields (broken_at most (line_at text n))
+          → Err p ≡ cond t (as_whole (ended_line text n)) (Err (as_place (broken_at most (line_at text n))))
+          → p ≡ as_place (cond (whole most (line_at text n)) in_fields (broken_at most (line_at text n)))
       go true e u f z = rw e (asked (ended_line text n) refl e z)
-      go false e u f z = let k : p ≡ broken_at most (line_at text n) = cc in rw e k
+      go false e u f z = let k : p ≡ as_place (broken_at most (line_at text n)) = cc in rw e k
 
   module _ (x y : ℕ) (q : r ≡ Ok (x, y)) where
     whole_passes : (whole most (line_at text n) ≡ true) × (ended_line text n ≡ Some (x, y))
@@ -308,7 +316,7 @@ module _ (most : ℕ) (text : List ℕ) (n : ℕ) (r : Result (ℕ × ℕ) ℕ) 
     whole_passes = go (whole most (line_at text n)) refl (ended_line text n) refl (sym q ∙ given)
       where
         go : (t : Bool) → whole most (line_at text n) ≡ t → (f : Option (ℕ × ℕ)) → ended_line text n ≡ f
-            → Ok (x, y) ≡ cond t (as_whole f) (Err (broken_at most (line_at text n)))
+            → Ok (x, y) ≡ cond t (as_whole f) (Err (as_place (broken_at most (line_at text n))))
             → (whole most (line_at text n) ≡ true) × (ended_line text n ≡ Some (x, y))
         go true e (Some (a, b)) f z = let k : ◌≡◌ {A = ℕ × ℕ} (a, b) (x, y) = cc in (e, f ∙ rw k refl)
         go true e None f z = let k : ◌≡◌ {A = ℕ} 0 1 = cc in absurd (omega arith)
@@ -326,19 +334,11 @@ module _ (most : ℕ) (text : List ℕ) (n : ℕ) (r : Result (ℕ × ℕ) ℕ) 
     pub whole_bytes : (line_at text n).bytes ≡ take (y - x) (drop x text)
     whole_bytes = ap (λ (l : TextLine). l.bytes) whole_line
 
-    pub whole_short : length (take (y - x) (drop x text)) ≤ most
-    whole_short = leb-true (length (take (y - x) (drop x text))) most (short_of (leb (length (take (y - x) (drop x text))) most) (sym (ap (whole most) whole_line) ∙ whole_passes.0))
-      where
-        short_of : (a : Bool) → (a && (true && printable (take (y - x) (drop x text)))) ≡ true → a ≡ true
-        short_of true w = refl
-        short_of false w = w
-
     -- v is what the fields of the line, as it is lent, come to
-    pub ranked_whole : (f : List ℕ → ℕ) (v : ℕ) → v ≡ f (take (y - x) (drop x text)) → v ≡ ranked_at most (line_at text n) (f (line_at text n).bytes)
+    pub ranked_whole : (f : List ℕ → ℕ) (v : Option ℕ) → v ≡ as_place (f (take (y - x) (drop x text)))
+        → v ≡ as_place (ranked_at most (line_at text n) (f (line_at text n).bytes))
     unfolding ranked_at
-    ranked_whole f v e = e ∙ ap f (sym whole_bytes) ∙ sym (rw whole_passes.0 refl)
-
-pub ruleset ranked_kit = (ranked_broken, whole_ordered, whole_inside, whole_short, ranked_whole)
+    ranked_whole f v e = e ∙ ap (λ (l : List ℕ). as_place (f l)) (sym whole_bytes) ∙ sym (rw whole_passes.0 refl)
 
 -- ---- the lines of what is left of a text, one after the other
 

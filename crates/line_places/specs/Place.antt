@@ -1,9 +1,14 @@
 -- Places in a line (Ask 2): a place counts from 1, and 0 stands where no single place is at fault. A field's place is 1 plus the bytes of the
 -- line before it; an empty field has the place where it would begin.
-use Rattle.std.specs.Prelude.{ℕ, suc, ◌-◌, ◌<◌, ◌≡◌, Bool, false, not, cond, ◌&&◌, List, [], map, leb, ltb, length, get_or, Option, None, ok_or, Result, Err}
+use Rattle.std.specs.Prelude.{ℕ, zero, suc, ◌-◌, ◌<◌, ◌≡◌, Bool, false, not, cond, ◌&&◌, List, [], map, leb, ltb, length, get_or, Option, Some, None, ok_or, Result, Err}
 use Rattle.lists.specs.Leftmost.{leftmost}
 use Rattle.text.specs.Lines.{TextLine, lines_of, printable_byte, whole}
 use Rattle.fields.specs.Fields.{part_start, field_of}
+
+-- A place as the code has it: none for 0.
+unfoldable pub as_place : ℕ → Option ℕ
+as_place zero = None
+as_place (suc i) = Some (suc i)
 
 -- The place of the field with index i; 0 where the line lacks it.
 unfoldable pub place_at : List (List ℕ) → ℕ → ℕ
@@ -46,8 +51,8 @@ unfoldable pub ended_line : List ℕ → ℕ → Option (ℕ × ℕ)
 ended_line text n = cond (line_at text n).newline (field_of 10 text (n - 1)) None
 
 -- The line as it is found: whole, or its place at fault.
-abbrev pub as_whole : Option (ℕ × ℕ) → Result (ℕ × ℕ) ℕ
-as_whole place = ok_or place 0
+abbrev pub as_whole : Option (ℕ × ℕ) → Result (ℕ × ℕ) (Option ℕ)
+as_whole place = ok_or place None
 
-unfoldable pub found_line : ℕ → List ℕ → ℕ → Result (ℕ × ℕ) ℕ
-found_line most text n = cond (whole most (line_at text n)) (as_whole (ended_line text n)) (Err (broken_at most (line_at text n)))
+unfoldable pub found_line : ℕ → List ℕ → ℕ → Result (ℕ × ℕ) (Option ℕ)
+found_line most text n = cond (whole most (line_at text n)) (as_whole (ended_line text n)) (Err (as_place (broken_at most (line_at text n))))

@@ -1,12 +1,2 @@
-// Numbers written in front of a buffer.
+// Definitions of lists, and their laws: numbers at a place, tables, the leftmost of several, filled lists. There is no code here.
 #![tactic(auto)]
-
-ghost use Rattle.std.specs.Prelude.{◌≡◌, ◌++◌, ◌≤◌, length, drop};
-
-// Writes the numbers in front of a buffer; its rest stays.
-pub fn copy(numbers: &[u16], to: &mut [u16])
-    requires { length numbers.now ≤ length to.old }
-    ensures { to.new ≡ numbers.now ++ drop (length numbers.now) to.old }
-{
-    to[..numbers.len()].copy_from_slice(numbers);
-}

@@ -29,6 +29,8 @@ fn open<R: Files>(rt: &R, path: &[u8]) -> Option<R::File> {
 }
 
 // Reads until a read says that there is no more. What a read means is decided by `after_read` alone.
+// A `loop`, since only a read's answer ends it: `read_to_end` needs the heap, which this does not
+// take, and `read_exact` refuses a file that is shorter than the buffer.
 fn read_whole<F: Read>(file: &mut F, buf: &mut [u8]) -> usize
     ensures { IsPrefixLen result buf.new }
 {

@@ -11,15 +11,8 @@ ghost use Rattle.log_buffer.specs.Valid.{begin_ok, link_ok, links_ok, rest_ok, g
 
 use std::marker::Model;
 
-// The number at a place, as a place or a count.
-pub fn number_at(buffer: &[u16], i: usize) -> usize
-    requires { i < length buffer.now }
-    ensures { result ≡ at buffer.now i }
-{
-    usize::from(buffer[i])
-}
-
-// A lent buffer as long as a log's.
+// A lent buffer as long as a log's. One generic type for both buffers is no plainer: it would share `new` alone, since each method names a
+// place of its own format, and without `Model`, which a const parameter beside a reference rules out, each clause would name the field.
 #[derive(Drop)]
 pub struct LogNumbers<'a> {
     numbers: &'a [u16],
@@ -121,10 +114,7 @@ impl<'a> LogNumbers<'a> {
         requires end_bound { v < steps_in self.now → at self.now (begin_at (v + 1)) ≤ most_links }
         ensures { result ≡ links_ok self.now v }
     {
-        if v >= self.steps() {
-            return true;
-        }
-        (self.begin(v)..self.begin(v + 1)).all(|i| self.link_ok(v, i))
+        v >= self.steps() || (self.begin(v)..self.begin(v + 1)).all(|i| self.link_ok(v, i))
     }
 
     // The links of all steps, whose places have been looked at.

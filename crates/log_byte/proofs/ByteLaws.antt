@@ -10,9 +10,9 @@ use lib.Dec.{eqb, leb, ltb}
 use lib.ListN.{length, take, drop}
 use Rattle.text.specs.Split.{split}
 use Rattle.text.specs.Lines.{TextLine, printable, whole}
-use Rattle.line_places.specs.Place.{place_at, unprintable_place, broken_at, ranked_at, line_at, found_line}
-use Rattle.std.specs.Prelude.{Result, Ok, Err}
-use Rattle.line_places.proofs.PlaceLaws.{place_most}
+use Rattle.line_places.specs.Place.{as_place, place_at, unprintable_place, broken_at, ranked_at, line_at, found_line}
+use Rattle.std.specs.Prelude.{Option, None, unwrap_or, Result, Ok, Err}
+use Rattle.line_places.proofs.PlaceLaws.{place_out, place_most}
 use Rattle.line_places.proofs.LineLaws.{unprintable_most, ranked_broken, ranked_whole, whole_ordered, whole_inside}
 use Rattle.log_line.specs.Header.{Columns}
 use Rattle.log_line.specs.Answers.{order_of}
@@ -71,42 +71,46 @@ pub byte_early : (text : List ℕ) (number n : ℕ) → number < 21 → 0 ≡ lo
 unfolding log_byte
 byte_early text number n h = sym (simp (lt-ltb number 21 h))
 
-module _ (text : List ℕ) (n : ℕ) (r : Result (ℕ × ℕ) ℕ) (given : r ≡ found_line 240 text n) where
-  pub broken_fits : (p : ℕ) → r ≡ Err p → p < 2 ^ 16
-  broken_fits p q =
-      let e = ranked_broken 240 text n r given p 0 q in
-      let h = ranked_most 240 (line_at text n) 0 (omega arith) in
+module _ (text : List ℕ) (number n : ℕ) (o : Option ℕ) (given : o ≡ as_place (ranked_at 240 (line_at text n) (place_in text number n (line_at text n).bytes)))
+    (v : ℕ) (e : v ≡ unwrap_or o 0) where
+  value : v ≡ ranked_at 240 (line_at text n) (place_in text number n (line_at text n).bytes)
+  value = e ∙ ap (λ (p : Option ℕ). unwrap_or p 0) given ∙ place_out (ranked_at 240 (line_at text n) (place_in text number n (line_at text n).bytes))
+
+  pub ranked_fits : v < 2 ^ 16
+  ranked_fits =
+      let f = value in
+      let h = ranked_most 240 (line_at text n) (place_in text number n (line_at text n).bytes) (in_most text number n (line_at text n).bytes) in
       omega arith
 
-  pub byte_broken : (number : ℕ) → 21 ≤ number → (p : ℕ) → r ≡ Err p → p ≡ log_byte text number n
+  pub byte_ranked : 21 ≤ number → v ≡ log_byte text number n
   unfolding log_byte
-  byte_broken number late p q = ranked_broken 240 text n r given p (place_in text number n (line_at text n).bytes) q ∙ sym (simp (le-ltb number 21 late))
+  byte_ranked late = value ∙ sym (simp (le-ltb number 21 late))
 
-  module _ (x y : ℕ) (q : r ≡ Ok (x, y)) (number v : ℕ) (e : v ≡ place_in text number n (take (y - x) (drop x text))) where
-    ranked : v ≡ ranked_at 240 (line_at text n) (place_in text number n (line_at text n).bytes)
-    ranked = ranked_whole 240 text n r given x y q (place_in text number n) v e
+pub ruleset byte_kit = (byte_early, ranked_fits, byte_ranked)
 
-    pub whole_fits : v < 2 ^ 16
-    whole_fits =
-        let f = ranked in
-        let h = ranked_most 240 (line_at text n) (place_in text number n (line_at text n).bytes) (in_most text number n (line_at text n).bytes) in
-        omega arith
+-- ---- a line by its number
 
-    pub byte_whole : 21 ≤ number → v ≡ log_byte text number n
-    unfolding log_byte
-    byte_whole late = ranked ∙ sym (simp (le-ltb number 21 late))
+module _ (text : List ℕ) (number n : ℕ) (r : Result (ℕ × ℕ) (Option ℕ)) (given : r ≡ found_line 240 text n) where
+  pub line_broken : (p : Option ℕ) → r ≡ Err p → p ≡ as_place (ranked_at 240 (line_at text n) (place_in text number n (line_at text n).bytes))
+  line_broken p q = ranked_broken 240 text n r given p (place_in text number n (line_at text n).bytes) q
 
-pub ruleset byte_kit = (byte_early, byte_broken, broken_fits, byte_whole, whole_fits, whole_ordered, whole_inside)
+  module _ (x y : ℕ) (q : r ≡ Ok (x, y)) where
+    pub line_whole : (v : Option ℕ) → v ≡ as_place (place_in text number n (take (y - x) (drop x text)))
+        → v ≡ as_place (ranked_at 240 (line_at text n) (place_in text number n (line_at text n).bytes))
+    line_whole v e = ranked_whole 240 text n r given x y q (place_in text number n) v e
+
+pub ruleset line_kit = (line_broken, whole_ordered, whole_inside, line_whole)
 
 -- ---- 26
 
 module _ (text bs : List ℕ) (n : ℕ) where
-  pub over_first : n ≡ 1 → 0 ≡ cond (eqb n 1) 0 (limit_at (link_count (steps_before text n)) (columns_named text) (step_at n) (split 32 bs))
+  pub over_first : n ≡ 1 → None ≡ as_place (cond (eqb n 1) 0 (limit_at (link_count (steps_before text n)) (columns_named text) (step_at n) (split 32 bs)))
+  unfolding as_place
   over_first h = sym (rw (eq-eqb n 1 h) refl)
 
   pub over_below : (n ≡ 1 → ⊥) → (c : Columns) → c ≡ columns_named text → (v : ℕ) → v ≡ step_at n → (k : ℕ) → k ≡ link_count (steps_before text n)
-      → (p : ℕ) → p ≡ limit_at k c v (split 32 bs)
-      → p ≡ cond (eqb n 1) 0 (limit_at (link_count (steps_before text n)) (columns_named text) (step_at n) (split 32 bs))
+      → (p : Option ℕ) → p ≡ as_place (limit_at k c v (split 32 bs))
+      → p ≡ as_place (cond (eqb n 1) 0 (limit_at (link_count (steps_before text n)) (columns_named text) (step_at n) (split 32 bs)))
   over_below h c e v f k g p q = q ∙ rw (e, f, g, ne_eqb n 1 h) refl
 
 pub preds_named : (o : ColumnOrder) (text : List ℕ) → order_of o ≡ columns_named text → o.preds ≡ (columns_named text).preds
@@ -116,35 +120,36 @@ pub ruleset over_kit = (over_first, over_below, preds_named)
 
 -- ---- the place by the number
 
-module _ (text bs : List ℕ) (number n : ℕ) (p : ℕ) where
-  pub in_header : number ≡ 22 → p ≡ header_at (split 32 bs) → p ≡ place_in text number n bs
+module _ (text bs : List ℕ) (number n : ℕ) (p : Option ℕ) where
+  pub in_header : number ≡ 22 → p ≡ as_place (header_at (split 32 bs)) → p ≡ as_place (place_in text number n bs)
   unfolding place_in
   in_header h e = e ∙ sym (rw h refl)
 
-  pub in_limit : number ≡ 26 → p ≡ cond (eqb n 1) 0 (limit_at (link_count (steps_before text n)) (columns_named text) (step_at n) (split 32 bs)) → p ≡ place_in text number n bs
+  pub in_limit : number ≡ 26 → p ≡ as_place (cond (eqb n 1) 0 (limit_at (link_count (steps_before text n)) (columns_named text) (step_at n) (split 32 bs)))
+      → p ≡ as_place (place_in text number n bs)
   unfolding place_in
   in_limit h e = e ∙ sym (rw h refl)
 
   module _ (c : Columns) (named : c ≡ columns_named text) where
-    pub in_malformed : number ≡ 21 → p ≡ malformed_at c (split 32 bs) → p ≡ place_in text number n bs
+    pub in_malformed : number ≡ 21 → p ≡ as_place (malformed_at c (split 32 bs)) → p ≡ as_place (place_in text number n bs)
     unfolding place_in
-    in_malformed h e = e ∙ ap (λ (d : Columns). malformed_at d (split 32 bs)) named ∙ sym (rw h refl)
+    in_malformed h e = e ∙ ap (λ (d : Columns). as_place (malformed_at d (split 32 bs))) named ∙ sym (rw h refl)
 
-    pub in_vertex : number ≡ 23 → p ≡ place_at (split 32 bs) c.vertex → p ≡ place_in text number n bs
+    pub in_vertex : number ≡ 23 → p ≡ as_place (place_at (split 32 bs) c.vertex) → p ≡ as_place (place_in text number n bs)
     unfolding place_in
-    in_vertex h e = e ∙ ap (λ (d : Columns). place_at (split 32 bs) d.vertex) named ∙ sym (rw h refl)
+    in_vertex h e = e ∙ ap (λ (d : Columns). as_place (place_at (split 32 bs) d.vertex)) named ∙ sym (rw h refl)
 
-    pub in_preds : number ≡ 24 → p ≡ place_at (split 32 bs) c.preds → p ≡ place_in text number n bs
+    pub in_preds : number ≡ 24 → p ≡ as_place (place_at (split 32 bs) c.preds) → p ≡ as_place (place_in text number n bs)
     unfolding place_in
-    in_preds h e = e ∙ ap (λ (d : Columns). place_at (split 32 bs) d.preds) named ∙ sym (rw h refl)
+    in_preds h e = e ∙ ap (λ (d : Columns). as_place (place_at (split 32 bs) d.preds)) named ∙ sym (rw h refl)
 
-    pub in_labels : number ≡ 25 → p ≡ place_at (split 32 bs) c.labels → p ≡ place_in text number n bs
+    pub in_labels : number ≡ 25 → p ≡ as_place (place_at (split 32 bs) c.labels) → p ≡ as_place (place_in text number n bs)
     unfolding place_in
-    in_labels h e = e ∙ ap (λ (d : Columns). place_at (split 32 bs) d.labels) named ∙ sym (rw h refl)
+    in_labels h e = e ∙ ap (λ (d : Columns). as_place (place_at (split 32 bs) d.labels)) named ∙ sym (rw h refl)
 
 pub in_none : (text bs : List ℕ) (number n : ℕ) → (number ≡ 21 → ⊥) → (number ≡ 22 → ⊥) → (number ≡ 23 → ⊥) → (number ≡ 24 → ⊥) → (number ≡ 25 → ⊥) → (number ≡ 26 → ⊥)
-    → 0 ≡ place_in text number n bs
-unfolding place_in
+    → None ≡ as_place (place_in text number n bs)
+unfolding place_in as_place
 in_none text bs number n a b c d e f = sym (rw (ne_eqb number 21 a, ne_eqb number 22 b, ne_eqb number 23 c, ne_eqb number 24 d, ne_eqb number 25 e, ne_eqb number 26 f) refl)
 
 pub ruleset in_kit = (in_header, in_limit, in_malformed, in_vertex, in_preds, in_labels, in_none)

@@ -4,16 +4,11 @@
 // and, where it is not the whole buffer, how many numbers of the buffer are lent. The buffer has six numbers more than the format uses.
 #![tactic(auto)]
 
-use std::{fs, io};
+use std::io;
 use trial::column;
 
 fn main(rt: HostRuntime) -> io::Result<()> {
-    let file = fs::read_to_string(&rt, "cases.txt")?;
-    let mut tally = outcome::Tally::new(rt.alloc());
-    for line in file.lines() {
-        tally.add(try_case(&rt, line)?)?;
-    }
-    print!(rt; "{tally}")
+    outcome::try_cases(&rt, "cases.txt", |line| try_case(&rt, line))
 }
 
 // The answer's numbers, and what the call left in the buffer.

@@ -4,18 +4,20 @@ use Prim.Native.Nat.{ℕ, ◌+◌, ◌-◌, ◌≤◌, ◌<◌}
 use mathlib.Core.Path.{◌≡◌, refl, sym, ap, ◌∙◌}
 use mathlib.Core.List.{List, [], ◌∷◌, ◌++◌, append_assoc}
 use native.Mathlib.Omega.{arith}
+use lib.Dec.{T}
+use lib.Pow.{pow_mono}
 use lib.ListN.{length, get_or, take, drop}
 use lib.Seq.{take_all}
 use Rattle.text.specs.Split.{joined, line_from}
 use Rattle.numbers.specs.Numbers.{spell}
 use Rattle.numbers.specs.Listed.{list_word}
-use Rattle.layout.specs.Layout.{log_length}
+use Rattle.layout.specs.Layout.{most_labels, log_length}
 use Rattle.log_buffer.specs.Meaning.{steps_in}
+use Rattle.log_buffer.specs.Valid.{is_log}
 use Rattle.log_buffer.proofs.Sound.{Sound, sound_iff, begin_next, begin_inside}
 use Rattle.log_texts.specs.Spelled.{fields_of, header_line}
 use Rattle.writing.specs.Put.{listed}
 use Rattle.writing.proofs.PutLaws.{kit, joined_listed}
-use Rattle.log_layout.specs.Tested.{Tested}
 
 -- ---- links
 
@@ -48,9 +50,33 @@ pub ruleset line_kit = (kit, header_is, line_is)
 
 -- ---- a step of a buffer
 
-module _ (log : List ℕ) (t : Tested log) where
-  sound : Sound t.count log
-  sound = (sound_iff t.count log).0 t.log_passes
+-- Under whatever label count it passes, it passes under the most.
+pub under_most : (count : ℕ) (log : List ℕ) → count ≤ most_labels → T (is_log count log) → T (is_log most_labels log)
+under_most count log fit t =
+    let s = (sound_iff count log).0 t in
+    (sound_iff most_labels log).1 (record {
+      long = s.long;
+      started = s.started;
+      few_steps = s.few_steps;
+      bare = s.bare;
+      labelled = λ v h n. omega (arith, s.labelled v h n, pow_mono {i = count} {j = most_labels} fit);
+      boarded = s.boarded;
+      no_labels = s.no_labels;
+      no_board = s.no_board;
+      start = s.start;
+      unlinked = s.unlinked;
+      linked = s.linked;
+      at_most = s.at_most;
+      no_begin = s.no_begin;
+      few_links = s.few_links;
+      below = s.below;
+      rising = s.rising;
+      rest = s.rest;
+    })
+
+module _ (log : List ℕ) (t : T (is_log most_labels log)) where
+  sound : Sound most_labels log
+  sound = (sound_iff most_labels log).0 t
 
   pub long : log_length ≤ length log
   long = sound.long

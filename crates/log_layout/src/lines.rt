@@ -3,10 +3,8 @@ ghost use Rattle.std.specs.Prelude.{◌+◌, ◌^◌, ◌≤◌, ◌<◌, length
 ghost use Rattle.text.specs.Split.{line_from};
 ghost use Rattle.numbers.specs.Listed.{list_word};
 ghost use Rattle.log_line.specs.Step.{Step};
-ghost use Rattle.log_buffer.specs.Meaning.{steps_in};
-ghost use Rattle.log_texts.specs.Spelled.{step_in, fields_of, header_line};
+ghost use Rattle.log_texts.specs.Spelled.{fields_of, header_line};
 ghost use Rattle.writing.specs.Put.{Adds};
-ghost use Rattle.log_layout.specs.Tested.{Tested};
 
 use writing::Output;
 
@@ -37,7 +35,7 @@ fn put_preds(output: &mut Output, preds: &[u16])
 
 // The line of a step with this board, this label set and these links.
 #[tactic(auto, using(crate::proofs::LineLaws::line_kit))]
-fn put_line(output: &mut Output, step: u16, board: u16, labels: u16, preds: &[u16])
+pub fn put_line(output: &mut Output, step: u16, board: u16, labels: u16, preds: &[u16])
     requires preds_len_bound { length preds.now ≤ 8 }
     requires at_bound { output.old.at + 67 < 2 ^ 64 }
     ensures put { Adds (line_from (fields_of step (record { board = board; labels = labels; preds = preds.now }))) output.old output.new }
@@ -48,25 +46,4 @@ fn put_line(output: &mut Output, step: u16, board: u16, labels: u16, preds: &[u1
     output.put_ended(labels, b' ');
     put_preds(output, preds);
     output.put_byte(b'\n');
-}
-
-// The line of a step of a log buffer.
-#[tactic(auto, using(crate::proofs::LineLaws::step_kit))]
-pub fn put_step(output: &mut Output, step: u16, log: &[u16])
-    requires tested { Tested log.now }
-    requires step_bound { step < steps_in log.now }
-    requires at_bound { output.old.at + 67 < 2 ^ 64 }
-    ensures put { Adds (line_from (fields_of step (step_in log.now step))) output.old output.new }
-    ensures upper_bound { output.new.at ≤ output.old.at + 67 }
-{
-    let v = usize::from(step);
-    let from = layout::LINKS + usize::from(log[layout::BEGINS + v]);
-    let to = layout::LINKS + usize::from(log[layout::BEGINS + (v + 1)]);
-    put_line(
-        output,
-        step,
-        log[layout::BOARDS + v],
-        log[layout::LABEL_SETS + v],
-        &log[from..to],
-    );
 }

@@ -5,6 +5,7 @@ ghost use Rattle.std.specs.Prelude.{◌≡◌, length};
 ghost use Rattle.text.specs.Split.{split};
 ghost use Rattle.numbers.specs.Listed.{list_of};
 ghost use Rattle.log_line.specs.Answers.{order_of};
+ghost use Rattle.line_places.specs.Place.{as_place};
 ghost use Rattle.log_places.specs.Place.{over_limit_at, limit_at};
 
 use fields::{Fields, field_count};
@@ -19,30 +20,37 @@ pub fn link_count(field: &[u8]) -> usize
     ensures { result ≡ length (list_of field.now) }
 {
     if is_none(field) {
-        return 0;
+        0
+    } else {
+        field_count(field, b',')
     }
-    field_count(field, b',')
 }
 
-// The field with this index of the line of step v, after so many links, is over a limit.
-#[tactic(auto, using(crate::proofs::LimitLaws::limit_kit))]
-fn over_limit<const N: usize>(
-    fields: &Fields<N>,
-    order: ColumnOrder,
-    v: usize,
-    before: usize,
-    index: usize,
-) -> bool
-    ensures { result ≡ over_limit_at before (order_of order) v (split 32 fields.now.line.now) index }
-{
-    let late = index == order.vertex && is_late(v);
-    late || index == order.preds && has_too_many(link_count(fields.field(order.preds)), before)
+// How far a log has been read, before a line: where the columns are, which step the line speaks of, and how many links those before it list. No
+// `Position`: that is of a log that passed so far, within its limits, and this of any text.
+#[derive(Clone, Copy)]
+pub struct Progress {
+    pub order: ColumnOrder,
+    pub step: usize,
+    pub links: usize,
 }
 
-// The place of the leftmost such field; 0 where there is none.
-pub fn limit_place(line: &[u8], order: ColumnOrder, v: usize, before: usize) -> usize
-    ensures { result ≡ limit_at before (order_of order) v (split 32 line.now) }
-{
-    let fields = Fields::<8>::split(line);
-    place_where(&fields, |i| over_limit(&fields, order, v, before, i))
+impl Progress {
+    // The field with this index of the line is over a limit.
+    #[tactic(auto, using(crate::proofs::LimitLaws::limit_kit))]
+    fn over_limit<const N: usize>(&self, fields: &Fields<N>, index: usize) -> bool
+        ensures { result ≡ over_limit_at self.now.links (order_of self.now.order) self.now.step (split 32 fields.now.line.now) index }
+    {
+        let late = index == self.order.vertex && is_late(self.step);
+        late || index == self.order.preds
+            && has_too_many(link_count(fields.field(self.order.preds)), self.links)
+    }
+
+    // The place of the leftmost such field.
+    pub fn limit_place(&self, line: &[u8]) -> Option<usize>
+        ensures { result ≡ as_place (limit_at self.now.links (order_of self.now.order) self.now.step (split 32 line.now)) }
+    {
+        let fields = Fields::<8>::split(line);
+        place_where(&fields, |i| self.over_limit(&fields, i))
+    }
 }

@@ -26,9 +26,10 @@ impl ColumnOrder {
     }
 }
 
-// The place of the first field that is this name; where none is, how many fields there are.
+// The place of the first field that is this name; where none is, how many fields there are. By `position` the proof does not close: in a
+// function with a const parameter nothing is found of what a closure answers (`Called` stays shut).
 #[tactic(auto, using(crate::proofs::HeaderLaws::place_kit))]
-fn place_of<const N: usize>(fields: &Fields<N>, name: &[u8]) -> usize
+pub fn place_of<const N: usize>(fields: &Fields<N>, name: &[u8]) -> usize
     ensures { result ≡ place_of name.now (split 32 fields.now.line.now) }
 {
     for i in 0..fields.len() {

@@ -9,20 +9,21 @@ use numbers::read_number;
 #[derive(Clone, Copy)]
 pub struct Links {
     pub count: usize,
-    pub first: [u16; 8],
+    pub first: [u16; layout::MOST_PREDS],
 }
 
 impl Links {
     // All of them, where they are at most 8.
     pub fn as_slice(&self) -> &[u16]
-        requires { (self.now.count ≤ 8) × (length self.now.first ≡ 8) }
+        requires { self.now.count ≤ 8 }
         ensures { result.now ≡ take self.now.count self.now.first }
     {
         &self.first[..self.count]
     }
 }
 
-// What the field comes to for a step, where it is `-` or numbers joined by commas: are the links wrong (24), and which are they?
+// What the field comes to for a step, where it is `-` or numbers joined by commas: are the links wrong (24), and which are they? A flag beside the
+// links and no `Result`: what is said of them is said whether they are wrong or not.
 #[derive(Clone, Copy)]
 pub struct Preds {
     pub mislinked: bool,
@@ -38,7 +39,7 @@ pub fn is_none(field: &[u8]) -> bool
 
 // Puts the number at its place, if that is one of the 8. By `get_mut` the proof does not close: what stands there afterwards is not found.
 #[tactic(auto, using(crate::proofs::PredLaws::keep_kit))]
-fn keep(first: &mut [u16; 8], k: usize, u: u16)
+fn keep(first: &mut [u16; layout::MOST_PREDS], k: usize, u: u16)
     ensures { first.new ≡ set first.old k u }
 {
     if k < layout::MOST_PREDS {
@@ -57,13 +58,14 @@ fn next_least(least: Option<u16>, u: u16, v: u16) -> Option<u16>
     }
 }
 
-// The numbers of the field for step v, in one pass that goes on where reading a number stopped.
+// The numbers of the field for step v, in one pass that goes on where reading a number stopped, so no `for` counts the place.
 #[tactic(auto, using(crate::proofs::PredLaws::scanning_kit))]
+#[inline(always)]
 fn scan_numbers(field: &[u8], v: u16) -> Option<Preds>
     requires { is_none field.now ≡ false }
     ensures { Scanned v field.now result }
 {
-    let mut first = [0u16; 8];
+    let mut first = [0u16; layout::MOST_PREDS];
     let mut at = 0;
     let mut count = 0;
     let mut least = Some(0u16);
@@ -84,6 +86,7 @@ fn scan_numbers(field: &[u8], v: u16) -> Option<Preds>
 
 // The field for step v, if it is `-` or numbers joined by commas.
 #[tactic(auto, using(crate::proofs::PredLaws::field_kit))]
+#[inline(always)]
 pub fn scan_preds(field: &[u8], v: u16) -> Option<Preds>
     ensures { Scanned v field.now result }
 {
@@ -92,7 +95,7 @@ pub fn scan_preds(field: &[u8], v: u16) -> Option<Preds>
             mislinked: v != 0,
             links: Links {
                 count: 0,
-                first: [0; 8],
+                first: [0; layout::MOST_PREDS],
             },
         });
     }

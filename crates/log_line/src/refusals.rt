@@ -21,6 +21,7 @@ pub enum Refusal {
     Limit,
 }
 
+// Document 01's numbers, which are the format's own.
 impl From<Refusal> for u16 {
     ghost from_gives = { λ refusal number. number ≡ refusal_number refusal };
 
@@ -35,11 +36,4 @@ impl From<Refusal> for u16 {
             Refusal::Limit => 26,
         }
     }
-}
-
-// A refusal and the line at fault, 0 where no line is.
-#[derive(Clone, Copy, PartialEq, Eq, Debug)]
-pub struct Fault {
-    pub refusal: Refusal,
-    pub line: u16,
 }

@@ -11,7 +11,7 @@ use Rattle.lists.specs.Places.{at}
 use Rattle.sets.specs.Sets.{members}
 use Rattle.sets.proofs.Agree.{members_empty}
 use Rattle.layout.specs.Layout.{labels_at, link_at}
-use Rattle.log_buffer.specs.Meaning.{steps_in, links_into}
+use Rattle.log_buffer.specs.Meaning.{steps_in}
 use Rattle.log_buffer.specs.Valid.{is_log}
 use Rattle.log_buffer.proofs.Meaning.{labels_are, link_below}
 use Rattle.log_buffer.proofs.Sound.{sound_iff, begin_next, begin_inside}
@@ -31,11 +31,6 @@ laid count log t =
     }
 
 module _ (log : List ℕ) (x from to : ℕ) (laid : Laid log) (h : x < steps_in log) (begins : Begins log x from) (ends : Begins log (x + 1) to) where
-  pub links_are : take (link_at to - link_at from) (drop (link_at from) log) ≡ links_into log x
-  links_are =
-      let n : link_at to - link_at from ≡ to - from = omega arith in
-      ap (λ (k : ℕ). take k (drop (link_at from) log)) n ∙ rw (begins.place, ends.place)
-
   pub links_small : Inside 1024 (take (link_at to - link_at from) (drop (link_at from) log))
   links_small = record { below = λ i k. small i k }
     where

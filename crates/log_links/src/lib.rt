@@ -7,7 +7,8 @@ ghost use Rattle.layout.specs.Layout.{most_steps, labels_at};
 ghost use Rattle.log_buffer.specs.Meaning.{steps_in, links_into};
 ghost use Rattle.log_links.specs.Links.{Laid, Begins, Inside, BareIf, Noted, LastTo};
 
-// A log buffer whose links lie in order and inside it.
+// A log buffer whose links lie in order and inside it. It holds the numbers and no `LogNumbers`: that is made by a test of the length, as an
+// `Option`, and is not copied; a `Log` is of a buffer that has passed all tests, and each turn of a pass gets a copy.
 #[derive(Clone, Copy)]
 pub struct Log<'a> {
     pub numbers: &'a [u16],

@@ -10,7 +10,7 @@ use lib.ListN.{length, get_or}
 use Rattle.std.specs.Prelude.{Option, Some, None}
 use Rattle.numbers.specs.Numbers.{number_of}
 use Rattle.numbers.specs.Listed.{is_list}
-use Rattle.line_places.specs.Place.{place_where}
+use Rattle.line_places.specs.Place.{as_place, place_where}
 use Rattle.log_line.specs.Header.{Columns}
 use Rattle.log_places.specs.Place.{wrong_field, malformed_at}
 
@@ -39,5 +39,12 @@ pub ruleset wrong_field_kit = (field_preds, field_odd, field_board, field_right)
 
 -- ---- the leftmost of four
 
-pub malformed_four : (c : Columns) (fs : List (List ℕ)) (n : ℕ) → n ≡ length fs → n ≡ 4 → (p : ℕ) → p ≡ place_where (wrong_field c fs) fs → p ≡ malformed_at c fs
+pub malformed_four : (c : Columns) (fs : List (List ℕ)) (n : ℕ) → n ≡ length fs → n ≡ 4 → (p : Option ℕ) → p ≡ as_place (place_where (wrong_field c fs) fs)
+    → p ≡ as_place (malformed_at c fs)
 malformed_four c fs n count four p e = e ∙ sym (simp (eq-eqb (length fs) 4 (sym count ∙ four)))
+
+pub malformed_other : (c : Columns) (fs : List (List ℕ)) (n : ℕ) → n ≡ length fs → (n ≡ 4 → ⊥) → None ≡ as_place (malformed_at c fs)
+unfolding as_place
+malformed_other c fs n count other = sym (rw (ne_eqb (length fs) 4 (λ e. other (count ∙ e))) refl)
+
+pub ruleset malformed_kit = (malformed_other)

@@ -2,6 +2,7 @@
 ghost use Rattle.std.specs.Prelude.{◌≡◌, not, ◌||◌, ltb};
 ghost use Rattle.text.specs.Split.{split};
 ghost use Rattle.log_line.specs.Answers.{order_of};
+ghost use Rattle.line_places.specs.Place.{as_place};
 ghost use Rattle.log_places.specs.Place.{header_at};
 ghost use Rattle.log_places.specs.Names.{is_place};
 
@@ -21,9 +22,9 @@ fn is_wrong(order: ColumnOrder, index: usize) -> bool
     !is_place || index >= 4
 }
 
-// The place of the leftmost name that is wrong; 0 where none is.
-pub fn header_place(line: &[u8]) -> usize
-    ensures { result ≡ header_at (split 32 line.now) }
+// The place of the leftmost name that is wrong.
+pub fn header_place(line: &[u8]) -> Option<usize>
+    ensures { result ≡ as_place (header_at (split 32 line.now)) }
 {
     let fields = Fields::<8>::split(line);
     let order = columns_of(&fields);

@@ -1,8 +1,9 @@
 // A line below the header: the leftmost field that is not what its column asks.
-ghost use Rattle.std.specs.Prelude.{◌≡◌, [], get_or};
+ghost use Rattle.std.specs.Prelude.{◌≡◌};
 ghost use Rattle.text.specs.Split.{split};
 ghost use Rattle.numbers.specs.Listed.{is_list};
 ghost use Rattle.log_line.specs.Answers.{order_of};
+ghost use Rattle.line_places.specs.Place.{as_place};
 ghost use Rattle.log_places.specs.Place.{wrong_field, malformed_at};
 
 use fields::Fields;
@@ -28,17 +29,18 @@ fn wrong_field<const N: usize>(fields: &Fields<N>, order: ColumnOrder, index: us
     }
     match number_at(fields, index) {
         None => true,
-        Some(number) => index == order.board && number > 255,
+        Some(number) => index == order.board && number > layout::MOST_BOARD,
     }
 }
 
-// The place of the leftmost such field; 0 where the number of fields is wrong, and where no field is.
-pub fn malformed_place(line: &[u8], order: ColumnOrder) -> usize
-    ensures { result ≡ malformed_at (order_of order) (split 32 line.now) }
+// The place of the leftmost such field; none where the number of fields is wrong.
+#[tactic(auto, using(crate::proofs::MalformedLaws::malformed_kit))]
+pub fn malformed_place(line: &[u8], order: ColumnOrder) -> Option<usize>
+    ensures { result ≡ as_place (malformed_at (order_of order) (split 32 line.now)) }
 {
     let fields = Fields::<8>::split(line);
     if fields.len() != 4 {
-        return 0;
+        return None;
     }
     place_where(&fields, |i| wrong_field(&fields, order, i))
 }

@@ -1,6 +1,6 @@
 -- A whole text: its size, its first line, and the host's faults before all.
 -- Assumes nothing.
-use mathlib.Core.Path.{◌≡◌, refl, sym, ap, ◌∙◌}
+use mathlib.Core.Path.{◌≡◌, refl, sym, ap, ap₂, ◌∙◌}
 use mathlib.Core.Bool.{Bool, true, false, ◌||◌}
 use mathlib.Core.List.{List, []}
 use Prim.Native.Nat.{ℕ, ◌+◌, ◌-◌, ◌≤◌, ◌<◌}
@@ -12,25 +12,26 @@ use lib.Seq.{length-take-le}
 use Rattle.answer.specs.declared.Answer.{Answer}
 use Rattle.answer.specs.Answers.{accepted_with, refused_at, refused_in}
 use Rattle.text.specs.Split.{split}
-use Rattle.text.specs.Lines.{lines_of, line_of}
+use Rattle.text.specs.Lines.{lines_of, line_of, whole_or}
 use Rattle.text.specs.Walk.{Outcome, accepted, faulty, walk, bad_size, read_text}
-use Rattle.text.specs.declared.lines.LineFault.{LineFault}
+use Rattle.text.specs.declared.faults.Fault.{Fault}
+use Rattle.text.specs.Faults.{in_line}
 use Rattle.std.specs.Prelude.{Result, Ok, Err}
 use Rattle.lists.proofs.Parts.{rest_part}
-use Rattle.text.proofs.WalkLaws.{text_broken, text_refused, text_passed, lent_whole, after_in}
+use Rattle.text.proofs.WalkLaws.{text_broken, text_refused, text_passed, lent_whole}
 use Rattle.log_line.specs.Header.{columns_of}
 use Rattle.log_line.specs.Format.{Known, judge_header, judge_line, log_format, conclude, log_text}
 use Rattle.log_line.specs.Answers.{refusal_number, order_of, header_says}
 use Rattle.log_byte.specs.Byte.{log_byte}
-use Rattle.log_reader.specs.Answer.{text_answer}
+use Rattle.log_reader.specs.Answer.{refused_with, text_answer}
 use Rattle.log_walk.specs.Filled.{answered, answer_of, filled_by}
 use Rattle.log_walk.specs.Reading.{steps_read}
 use Rattle.log_store.specs.Stores.{knowing}
 use Rattle.log_line.specs.declared.refusals.Refusal.{Refusal}
 use Rattle.log_line.specs.declared.refusals.Refusal.TheVariants.{Size, Malformed, Header, Number, Links, Labels, Limit}
 use Rattle.log_line.specs.declared.header.ColumnOrder.{ColumnOrder}
-use Rattle.log_line.specs.declared.refusals.Fault.{Fault}
-use Rattle.log_walk.proofs.ReadLaws.{not_whole}
+use Rattle.log_walk.proofs.ReadLaws.{not_whole, line_broken, line_whole, next_in}
+use Rattle.text.proofs.FaultLaws.{lined_ok, lined_err}
 
 -- ---- what an outcome gives
 
@@ -42,9 +43,13 @@ module _ (count : ℕ) (text : List ℕ) (n line : ℕ) (e : read_text (log_form
   fault_fill log = sym (ap (λ (k : Outcome Known). filled_by (conclude k) log) e)
 
 -- What the code asks of numbers where the first line is whole.
-module _ (text : List ℕ) (r : Result ℕ LineFault) (said : r ≡ line_of 240 text) (e : ℕ) (p : r ≡ Ok e) where
+lent_first : (text : List ℕ) (b : Result ℕ Refusal) → b ≡ whole_or Malformed (line_of 240 text) → b ≡ whole_or Malformed (line_of 240 (take (length text - 0) (drop 0 text)))
+lent_first text b given = given ∙ ap (λ (l : List ℕ). whole_or Malformed (line_of 240 l)) (sym (rest_part text 0))
+
+module _ (text : List ℕ) (b : Result ℕ Refusal) (given : b ≡ whole_or Malformed (line_of 240 text)) (r : Result ℕ (Fault Refusal)) (said : r ≡ in_line 1 b)
+    (e : ℕ) (p : r ≡ Ok e) where
   pub start_in : e + 1 ≤ length text
-  start_in = let h = after_in text 0 240 r (said ∙ ap (line_of 240) (sym (rest_part text 0))) e p in omega arith
+  start_in = let h = next_in Malformed 240 text 0 1 b (lent_first text b given) r said e p in omega arith
 
   pub first_in : e ≤ length text
   first_in = let h = start_in in omega arith
@@ -67,12 +72,9 @@ module _ (count : ℕ) (text : List ℕ) where
 
     -- ---- the first line
 
-    module _ (right : t ≡ false) (r : Result ℕ LineFault) (said : r ≡ line_of 240 text) where
+    module _ (right : t ≡ false) (b : Result ℕ Refusal) (given : b ≡ whole_or Malformed (line_of 240 text)) (r : Result ℕ (Fault Refusal)) (said : r ≡ in_line 1 b) where
       begun : read_text (log_format count) text ≡ walk (judge_line count) (knowing (columns_of []) []) 1 (lines_of (drop 0 text))
       begun = rw (sym size ∙ right) refl
-
-      given : r ≡ line_of 240 (take (length text - 0) (drop 0 text))
-      given = said ∙ ap (line_of 240) (sym (rest_part text 0))
 
       nonempty : 0 < length text
       nonempty = go (eqb (length text) 0) refl (sym size ∙ right)
@@ -81,69 +83,72 @@ module _ (count : ℕ) (text : List ℕ) where
           go true p q = let z : ◌≡◌ {A = ℕ} 0 1 = cc in absurd (omega arith)
           go false p q = let n = eqb-false (length text) 0 p in omega arith
 
-      module _ (f : LineFault) (p : r ≡ Err f) where
-        broken : read_text (log_format count) text ≡ faulty 21 1
+      module _ (f : Fault Refusal) (p : r ≡ Err f) where
+        broken : read_text (log_format count) text ≡ faulty (refusal_number f.refusal) f.line
         broken =
-            text_broken (judge_line count) (knowing (columns_of []) []) 1 text 0 (read_text (log_format count) text) begun 240 r given 21
-            (not_whole count)
-            nonempty f p
+            let w = line_broken Malformed 240 text 0 1 b (lent_first text b given) r said f p in
+            text_broken (judge_line count) (knowing (columns_of []) []) 1 text 0 (read_text (log_format count) text) begun 240 _ refl 21 (not_whole count)
+            nonempty w.0 w.1
+            ∙ sym (ap₂ (λ (x : Refusal) (n : ℕ). faulty (refusal_number x) n) w.2 w.3)
 
-        pub broken_answered : refused_at 21 1 ≡ answer_of (log_text count text)
-        broken_answered = fault_answer count text 21 1 broken
+        pub broken_answered : refused_at (refusal_number f.refusal) f.line ≡ answer_of (log_text count text)
+        broken_answered = fault_answer count text (refusal_number f.refusal) f.line broken
 
         pub broken_filled : (log : List ℕ) → log ≡ filled_by (log_text count text) log
-        broken_filled = fault_fill count text 21 1 broken
+        broken_filled = fault_fill count text (refusal_number f.refusal) f.line broken
 
       module _ (e : ℕ) (p : r ≡ Ok e) where
+        here : line_of 240 (take (length text - 0) (drop 0 text)) ≡ Ok e
+        here = line_whole Malformed 240 text 0 1 b (lent_first text b given) r said e p
+
         module _ (a : Result ColumnOrder Refusal) (header : header_says a ≡ judge_header (split 32 (take e text))) where
           judged : judge_line count (knowing (columns_of []) []) 1 (record { bytes = take (0 + e - 0) (drop 0 text); newline = true })
               ≡ header_says a
           judged =
-              let w = lent_whole (judge_line count) (knowing (columns_of []) []) 1 text 0 (read_text (log_format count) text) begun 240 r given e p in
+              let w = lent_whole (judge_line count) (knowing (columns_of []) []) 1 text 0 (read_text (log_format count) text) begun 240 _ refl e here in
               let z : 0 + e - 0 ≡ e = omega arith in
               rw w (ap (λ (n : ℕ). judge_header (split 32 (take n text))) z ∙ sym header)
 
-          module _ (f : Refusal) (q : a ≡ Err f) where
-            unordered : read_text (log_format count) text ≡ faulty (refusal_number f) 1
-            unordered =
-                text_refused (judge_line count) (knowing (columns_of []) []) 1 text 0 (read_text (log_format count) text) begun 240 r given e p
-                (refusal_number f)
-                (judged ∙ rw q refl)
+          module _ (s : Result ColumnOrder (Fault Refusal)) (told : s ≡ in_line 1 a) where
+            module _ (f : Fault Refusal) (q : s ≡ Err f) where
+              unordered : read_text (log_format count) text ≡ faulty (refusal_number f.refusal) f.line
+              unordered =
+                  let l = lined_err 1 a f (sym told ∙ q) in
+                  text_refused (judge_line count) (knowing (columns_of []) []) 1 text 0 (read_text (log_format count) text) begun 240 _ refl e here
+                  (refusal_number f.refusal) (judged ∙ rw l.0 refl)
+                  ∙ sym (ap (faulty (refusal_number f.refusal)) l.1)
 
-            pub header_answered : refused_at (refusal_number f) 1 ≡ answer_of (log_text count text)
-            header_answered = fault_answer count text (refusal_number f) 1 unordered
+              pub header_answered : refused_at (refusal_number f.refusal) f.line ≡ answer_of (log_text count text)
+              header_answered = fault_answer count text (refusal_number f.refusal) f.line unordered
 
-            pub header_filled : (log : List ℕ) → log ≡ filled_by (log_text count text) log
-            header_filled = fault_fill count text (refusal_number f) 1 unordered
+              pub header_filled : (log : List ℕ) → log ≡ filled_by (log_text count text) log
+              header_filled = fault_fill count text (refusal_number f.refusal) f.line unordered
 
-          module _ (o : ColumnOrder) (q : a ≡ Ok o) where
-            below : log_text count text ≡ steps_read count (order_of o) (drop (e + 1) text)
-            unfolding steps_read
-            below =
-                let z : 0 + e + 1 ≡ e + 1 = omega arith in
-                ap conclude (text_passed (judge_line count) (knowing (columns_of []) []) 1 text 0 (read_text (log_format count) text) begun 240 r given e p
-                (knowing (order_of o) []) (judged ∙ rw q refl)
-                ∙ ap (λ (n : ℕ). walk (judge_line count) (knowing (order_of o) []) 2 (lines_of (drop n text))) z)
+            module _ (o : ColumnOrder) (q : s ≡ Ok o) where
+              ordered : a ≡ Ok o
+              ordered = lined_ok 1 a o (sym told ∙ q)
 
-            pub steps_answered : (x : Answer) → x ≡ answer_of (steps_read count (order_of o) (drop (e + 1) text)) → x ≡ answer_of (log_text count text)
-            steps_answered x y = y ∙ sym (ap answer_of below)
+              below : log_text count text ≡ steps_read count (order_of o) (drop (e + 1) text)
+              unfolding steps_read
+              below =
+                  let z : 0 + e + 1 ≡ e + 1 = omega arith in
+                  ap conclude (text_passed (judge_line count) (knowing (columns_of []) []) 1 text 0 (read_text (log_format count) text) begun 240 _ refl e here
+                  (knowing (order_of o) []) (judged ∙ rw ordered refl)
+                  ∙ ap (λ (n : ℕ). walk (judge_line count) (knowing (order_of o) []) 2 (lines_of (drop n text))) z)
 
-            pub steps_filled : (log exit : List ℕ) → exit ≡ filled_by (steps_read count (order_of o) (drop (e + 1) text)) log
-                → exit ≡ filled_by (log_text count text) log
-            steps_filled log exit y = y ∙ sym (ap (λ (k : Outcome Known). filled_by k log) below)
+              pub steps_answered : (x : Answer) → x ≡ answer_of (steps_read count (order_of o) (drop (e + 1) text)) → x ≡ answer_of (log_text count text)
+              steps_answered x y = y ∙ sym (ap answer_of below)
+
+              pub steps_filled : (log exit : List ℕ) → exit ≡ filled_by (steps_read count (order_of o) (drop (e + 1) text)) log
+                  → exit ≡ filled_by (log_text count text) log
+              steps_filled log exit y = y ∙ sym (ap (λ (k : Outcome Known). filled_by k log) below)
 
 pub ruleset text_kit = (
   size_answered,
   size_filled,
-  broken_answered,
-  broken_filled,
   start_in,
   first_in,
   first_counts,
-  header_answered,
-  header_filled,
-  steps_answered,
-  steps_filled,
 )
 
 -- ---- a refusal with its byte
@@ -152,7 +157,7 @@ no_byte : (text : List ℕ) (m line : ℕ) → m ≡ 0 → log_byte text m line 
 unfolding log_byte
 no_byte text m line z = rw z refl
 
-module _ (text : List ℕ) (o : Outcome Known) (a : Result ℕ Fault) (said : answered a ≡ answer_of o) where
+module _ (text : List ℕ) (o : Outcome Known) (a : Result ℕ (Fault Refusal)) (said : answered a ≡ answer_of o) where
   pub placed_count : (n : ℕ) → a ≡ Ok n → (r : Answer) → r ≡ accepted_with n → r ≡ text_answer text o
   placed_count n q r w = w ∙ go o (ap answered (sym q) ∙ said)
     where
@@ -162,9 +167,8 @@ module _ (text : List ℕ) (o : Outcome Known) (a : Result ℕ Fault) (said : an
           let z : number ≡ 0 = sym (ap (λ (x : Answer). x.number) e) in
           e ∙ sym (ap (refused_in number line) (no_byte text number line z))
 
-  pub placed_at : (f : Fault) → a ≡ Err f → (n : ℕ) → n ≡ refusal_number f.refusal → (b : ℕ) → b ≡ log_byte text n f.line → (r : Answer)
-      → r ≡ refused_in n f.line b → r ≡ text_answer text o
-  placed_at f q n m b e r p = p ∙ ap (refused_in n f.line) e ∙ ap (λ (k : ℕ). refused_in k f.line (log_byte text k f.line)) m ∙ go o (ap answered (sym q) ∙ said)
+  pub placed_at : (f : Fault Refusal) → a ≡ Err f → (r : Answer) → r ≡ refused_with text (refusal_number f.refusal) f.line → r ≡ text_answer text o
+  placed_at f q r p = p ∙ go o (ap answered (sym q) ∙ said)
     where
       some : (x : Refusal) → refusal_number x ≡ 0 → ⊥
       some Size z = absurd (omega arith)

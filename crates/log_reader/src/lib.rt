@@ -4,15 +4,17 @@
 ghost use Rattle.std.specs.Prelude.{◌≡◌, ◌≤◌, length};
 ghost use Rattle.text.specs.Walk.{bad_size};
 ghost use Rattle.log_line.specs.Format.{log_text};
-ghost use Rattle.log_reader.specs.Answer.{text_answer, log_answer, log_after};
+ghost use Rattle.log_line.specs.Answers.{refusal_number};
+ghost use Rattle.log_reader.specs.Answer.{refused_with, text_answer, log_answer, log_after};
 ghost use Rattle.log_walk.specs.Filled.{answered, answer_of, filled_by};
 
 use answer::Answer;
 use log_byte::byte_of;
 use log_line::header::read_header;
-use log_line::refusals::{Fault, Refusal};
+use log_line::refusals::Refusal;
 use log_walk::read_steps;
-use text::lines::read_line;
+use text::faults::{Fault, in_line};
+use text::lines::whole_line;
 
 // The text is empty or too large.
 fn has_bad_size(text: &[u8]) -> bool
@@ -23,7 +25,7 @@ fn has_bad_size(text: &[u8]) -> bool
 
 // How many steps the text has: its size, the header, and the lines below it.
 #[tactic(auto, using(crate::proofs::TextLaws::text_kit))]
-fn read_text(text: &[u8], labels: u16, log: &mut [u16]) -> Result<u16, Fault>
+fn read_text(text: &[u8], labels: u16, log: &mut [u16]) -> Result<u16, Fault<Refusal>>
     requires { (labels ≤ 16) × (7170 ≤ length log.old) }
     ensures value { answered result ≡ answer_of (log_text labels text.now) }
     ensures log_after { log.new ≡ filled_by (log_text labels text.now) log.old }
@@ -34,19 +36,20 @@ fn read_text(text: &[u8], labels: u16, log: &mut [u16]) -> Result<u16, Fault>
             line: 0,
         });
     }
-    let Ok(n) = read_line(text, layout::MOST_LINE) else {
-        return Err(Fault {
-            refusal: Refusal::Malformed,
-            line: 1,
-        });
-    };
-    match read_header(&text[..n]) {
-        Err(refusal) => Err(Fault { refusal, line: 1 }),
-        Ok(order) => read_steps(text, n + 1, order, labels, log),
-    }
+    let n = in_line(whole_line(text, layout::MOST_LINE, Refusal::Malformed), 1)?;
+    let order = in_line(read_header(&text[..n]), 1)?;
+    read_steps(text, n + 1, order, labels, log)
 }
 
-// The answer to a text; a refusal with the place in the line at fault.
+// The refusal of a text, with the place in the line at fault. Each reader has this function: the refusals and `byte_of` are its format's own.
+fn refuse(text: &[u8], fault: Fault<Refusal>) -> Answer
+    ensures { result ≡ refused_with text.now (refusal_number fault.refusal) fault.line }
+{
+    let number = u16::from(fault.refusal);
+    answer::refused_in(number, fault.line, byte_of(text, number, fault.line))
+}
+
+// The answer to a text.
 #[tactic(auto, using(crate::proofs::TextLaws::placed_kit))]
 fn read_placed(text: &[u8], labels: u16, log: &mut [u16]) -> Answer
     requires { (labels ≤ 16) × (7170 ≤ length log.old) }
@@ -55,15 +58,13 @@ fn read_placed(text: &[u8], labels: u16, log: &mut [u16]) -> Answer
 {
     match read_text(text, labels, log) {
         Ok(count) => answer::accepted(count),
-        Err(fault) => {
-            let number = u16::from(fault.refusal);
-            answer::refused_in(number, fault.line, byte_of(text, number, fault.line))
-        }
+        Err(fault) => refuse(text, fault),
     }
 }
 
 // Reads a log under a label count, 1 to 16. Accepted, its numbers stand in front of the buffer, which has room for 7,170; refused, the
-// buffer is as it was. The two tests of the count stay apart: by one test `search` did not find that 5 is the first fault.
+// buffer is as it was.
+#[tactic(auto, using(answer::proofs::FaultSteps::fault_steps))]
 pub fn read_log(text: &[u8], labels: u16, log: &mut [u16]) -> Answer
     ensures value { result ≡ log_answer text.now labels log.old }
     ensures log_after { log.new ≡ log_after text.now labels log.old }
@@ -71,10 +72,7 @@ pub fn read_log(text: &[u8], labels: u16, log: &mut [u16]) -> Answer
     if log.len() < layout::LOG_LENGTH {
         return answer::refused(1, 0);
     }
-    if labels < 1 {
-        return answer::refused(5, 0);
-    }
-    if labels > 16 {
+    if !(1..=16).contains(&labels) {
         return answer::refused(5, 0);
     }
     read_placed(text, labels, log)

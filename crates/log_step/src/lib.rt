@@ -42,7 +42,7 @@ fn read_row<const N: usize>(fields: &Fields<N>, order: ColumnOrder, v: u16) -> O
     let vertex = number_at(fields, order.vertex)?;
     let board = number_at(fields, order.board)?;
     let labels = number_at(fields, order.labels)?;
-    if board > 255 {
+    if board > layout::MOST_BOARD {
         return None;
     }
     let preds = scan_preds(fields.field(order.preds), v)?;
@@ -75,7 +75,7 @@ fn judge_values(row: Row, position: Position) -> Result<(StepValues, Links), Ref
     Ok((values, row.preds.links))
 }
 
-// The line at this position. The line is split once.
+// The line at this position. The line is split once; there is room for the four fields that it may have, and for where it ends.
 #[tactic(auto, using(crate::proofs::StepLaws::step_kit))]
 pub fn read_step(
     line: &[u8],
@@ -84,7 +84,7 @@ pub fn read_step(
 ) -> Result<(StepValues, Links), Refusal>
     ensures { StepJudged position.labels position.step position.links (order_of order) (split 32 line.now) result }
 {
-    let fields = Fields::<8>::split(line);
+    let fields = Fields::<5>::split(line);
     let row = read_row(&fields, order, position.step).ok_or(Refusal::Malformed)?;
     if row.vertex != position.step {
         return Err(Refusal::Number);

@@ -4,10 +4,9 @@ use mathlib.Core.Path.{◌≡◌, refl, sym, ap, ap₂, ◌∙◌, subst}
 use mathlib.Core.List.{List, [], ◌∷◌, ◌++◌, map, append-nil, append_assoc, map-append}
 use Prim.Native.Nat.{ℕ, zero, suc, ◌+◌, ◌-◌, ◌≤◌, ◌<◌}
 use native.Mathlib.Omega.{arith}
-use lib.ListN.{length, length-drop, drop_of_length-le, take, drop, set, replicate, length-append, length-set, length-map}
+use lib.ListN.{length, length-drop, take, drop, set, replicate, length-append, length-set, length-map}
 use lib.ListN.{length-replicate}
-use lib.Seq.{drop-drop, drop-append-add, set_at, take_at, take_all, length-take-le}
-use borrow.Rule.Slice.PartMut.{put_mid}
+use lib.Seq.{drop-append-add, set_at, take_at, length-take-le}
 use Rattle.log_line.specs.Step.{Step, link_count}
 use Rattle.log_step.specs.Limits.{InLimits}
 use Rattle.log_store.specs.Buffer.{padded, begins, links, buffer_of}
@@ -17,41 +16,12 @@ use Rattle.log_step.specs.declared.StepValues.{StepValues}
 
 -- ---- the places of a step
 
-module _ (b : List ℕ) (n v before : ℕ) (size : length b ≡ 7170) (ok : InLimits n v before) where
-  pub labels_in : 1 + v < length b
-  labels_in = let h = ok.step in omega arith
-
-  pub board_in : 1025 + v < length b
-  board_in = let h = ok.step in omega arith
-
-  pub begin_in : 2050 + v < length b
-  begin_in = let h = ok.step in omega arith
-
 pub values_are : (b : List ℕ) (v s board end : ℕ)
-    → set (set (set (set b 0 (v + 1)) (1 + v) s) (1025 + v) board) (2050 + v) end ≡ values_stored b v s board end
+    → set (set (set (set b 0 (v + 1)) (1 + v) s) (1025 + v) board) (2049 + v + 1) end ≡ values_stored b v s board end
 unfolding values_stored
-values_are b v s board end = let e : 2050 + v ≡ 2049 + (v + 1) = omega arith in rw e
+values_are b v s board end = let e : 2049 + v + 1 ≡ 2049 + (v + 1) = omega arith in rw e
 
-pub ruleset values_kit = (labels_in, board_in, begin_in, values_are)
-
-module _ (b us : List ℕ) (before : ℕ) (size : length b ≡ 7170) (few : before + length us ≤ 4096) where
-  pub first_in : 3074 + before ≤ length b
-  first_in = omega arith
-
-  room : length (take (length b - (3074 + before)) (drop (3074 + before) b)) ≡ length b - (3074 + before)
-  room = length-take-le (length b - (3074 + before)) (drop (3074 + before) b) (let d = length-drop (3074 + before) b in omega arith)
-
-  pub links_room : length us ≤ length (take (length b - (3074 + before)) (drop (3074 + before) b))
-  links_room = let r = room in omega arith
-
-  module _ (last : List ℕ) (copied : last ≡ us ++ drop (length us) (take (length b - (3074 + before)) (drop (3074 + before) b))) where
-    pub links_are : put_mid (3074 + before) (length b - (3074 + before)) b last ≡ links_stored b before us
-    unfolding links_stored
-    links_are =
-        let d = length-drop (3074 + before) b in
-        let e : length (drop (3074 + before) b) ≤ length b - (3074 + before) = omega arith in
-        rw (copied, take_all (length b - (3074 + before)) (drop (3074 + before) b) e, drop_of_length-le (drop (3074 + before) b) e, append-nil)
-        (ap (λ (l : List ℕ). take (3074 + before) b ++ (us ++ l)) (drop-drop (length us) (3074 + before) b))
+pub ruleset values_kit = (values_are)
 
 length_values : (b : List ℕ) (v s board end : ℕ) → length (values_stored b v s board end) ≡ length b
 unfolding values_stored
@@ -64,8 +34,6 @@ length_stored b us before size few =
     let d = length-drop (3074 + before + length us) b in
     let e = length-append us (drop (3074 + before + length us) b) in
     length-append (take (3074 + before) b) (us ++ drop (3074 + before + length us) b) ∙ omega arith
-
-pub ruleset links_kit = (first_in, links_room, links_are)
 
 -- ---- the blocks
 

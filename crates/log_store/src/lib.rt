@@ -5,6 +5,7 @@ ghost use Rattle.std.specs.Prelude.{◌≡◌, ◌+◌, ◌≤◌, length};
 ghost use Rattle.log_step.specs.Limits.{InLimits};
 ghost use Rattle.log_step.specs.Answers.{step_with};
 ghost use Rattle.log_store.specs.Stores.{values_stored, links_stored, StepStored, LineAdded};
+ghost use Rattle.layout.specs.Layout.{most_links};
 ghost use Rattle.text.specs.Split.{split};
 ghost use Rattle.log_line.specs.Answers.{order_of};
 
@@ -15,8 +16,13 @@ use log_step::{Position, StepValues, read_step};
 
 // Stores the step count, and at this step, which has so many links, its label set, its board and where the links of the next step begin.
 #[tactic(auto, using(crate::proofs::BufferLaws::values_kit))]
-fn store_values(buffer: &mut [u16], position: Position, values: StepValues, links: usize)
-    requires { (length buffer.old ≡ 7170) × InLimits links position.step position.links }
+fn store_values(
+    buffer: &mut [u16; layout::LOG_LENGTH],
+    position: Position,
+    values: StepValues,
+    links: usize,
+)
+    requires { InLimits links position.step position.links }
     ensures { buffer.new ≡ values_stored buffer.old position.step values.labels values.board (position.links + links) }
 {
     let next = position.after(links);
@@ -24,13 +30,13 @@ fn store_values(buffer: &mut [u16], position: Position, values: StepValues, link
     buffer[0] = next.step;
     buffer[layout::LABEL_SETS + i] = values.labels;
     buffer[layout::BOARDS + i] = values.board;
-    buffer[2050 + i] = next.links;
+    buffer[layout::BEGINS + i + 1] = next.links;
 }
 
 // Stores links after so many others.
-#[tactic(auto, using(crate::proofs::BufferLaws::links_kit), unfolding(crate::specs::Stores::links_stored))]
-fn store_links(buffer: &mut [u16], before: u16, links: &[u16])
-    requires { (length buffer.old ≡ 7170) × (before + length links.now ≤ 4096) }
+#[tactic(auto, unfolding(crate::specs::Stores::links_stored))]
+fn store_links(buffer: &mut [u16; layout::LOG_LENGTH], before: u16, links: &[u16])
+    requires { before + length links.now ≤ most_links }
     ensures { buffer.new ≡ links_stored buffer.old before links.now }
 {
     let first = layout::LINKS + usize::from(before);
@@ -39,8 +45,13 @@ fn store_links(buffer: &mut [u16], before: u16, links: &[u16])
 
 // Adds a step with these values and links to a buffer of the steps before it.
 #[tactic(auto, using(crate::proofs::BufferLaws::store_kit))]
-fn store_step(buffer: &mut [u16], position: Position, values: StepValues, links: &Links)
-    requires { (length buffer.old ≡ 7170) × (length links.now.first ≡ 8) × InLimits links.now.count position.step position.links }
+fn store_step(
+    buffer: &mut [u16; layout::LOG_LENGTH],
+    position: Position,
+    values: StepValues,
+    links: &Links,
+)
+    requires { InLimits links.now.count position.step position.links }
     ensures { StepStored buffer.old position.step position.links (step_with (values, links.now)) buffer.new }
 {
     store_values(buffer, position, values, links.count);
@@ -53,12 +64,11 @@ pub fn add_line(
     line: &[u8],
     order: ColumnOrder,
     position: Position,
-    buffer: &mut [u16],
+    buffer: &mut [u16; layout::LOG_LENGTH],
 ) -> Result<(StepValues, Links), Refusal>
-    requires { length buffer.old ≡ 7170 }
     ensures { LineAdded position.labels position.step position.links (order_of order) (split 32 line.now) buffer.old result buffer.new }
 {
-    let (values, links) = read_step(line, order, position)?;
-    store_step(buffer, position, values, &links);
-    Ok((values, links))
+    let step = read_step(line, order, position)?;
+    store_step(buffer, position, step.0, &step.1);
+    Ok(step)
 }

@@ -1,5 +1,6 @@
 // Is a buffer one that an accepted log text gives under a label count? The judge asks before it reads a log buffer.
 // The length comes first, then each place in turn; no number of the buffer is used as a place before it has been looked at.
+// That a step is below the most is asked by each: it is a bound of the caller's loop.
 #![tactic(auto)]
 
 ghost use Rattle.std.specs.Prelude.{◌≡◌, ◌<◌};
@@ -19,9 +20,9 @@ fn values_ok(log: &LogNumbers, labels: u16, v: usize) -> bool
     if v >= log.steps() {
         set == 0 && board == 0
     } else if v == 0 {
-        set == 0 && board <= 255
+        set == 0 && board <= layout::MOST_BOARD
     } else {
-        sets::within(set, labels) && board <= 255
+        sets::within(set, labels) && board <= layout::MOST_BOARD
     }
 }
 

@@ -1,20 +1,23 @@
 -- The reader's loop over the lines below the header: what is known so far, and each way out.
 -- Assumes nothing.
-use mathlib.Core.Path.{◌≡◌, refl, sym, ap, ◌∙◌, subst}
+use mathlib.Core.Path.{◌≡◌, refl, sym, ap, ap₂, ◌∙◌, subst}
 use mathlib.Core.Bool.{true, false}
 use mathlib.Core.List.{List, [], ◌∷◌, ◌++◌}
-use Prim.Native.Nat.{ℕ, ◌+◌, ◌-◌, ◌≤◌, ◌<◌}
+use Prim.Native.Nat.{ℕ, ◌+◌, ◌-◌, ◌^◌, ◌≤◌, ◌<◌}
 use native.Mathlib.Omega.{arith}
 use borrow.Author.Tests.{eq-eqb, ne_eqb}
 use lib.ListN.{length, take, drop, replicate, length-append}
 use lib.Seq.{length-take-le}
 use Rattle.answer.specs.Answers.{accepted_with, refused_at}
 use Rattle.text.specs.Split.{split}
-use Rattle.text.specs.Lines.{TextLine, lines_of, line_of, whole}
+use Rattle.text.specs.Lines.{TextLine, lines_of, line_of, whole, whole_or}
 use Rattle.text.specs.Walk.{refused, Outcome, accepted, faulty, walk}
 use Rattle.text.specs.declared.lines.LineFault.{LineFault}
 use Rattle.std.specs.Prelude.{Result, Ok, Err}
-use Rattle.text.proofs.WalkLaws.{text_end, text_broken, text_refused, text_passed, lent_whole, walk_numbers}
+use Rattle.text.specs.declared.faults.Fault.{Fault}
+use Rattle.text.specs.Faults.{in_line}
+use Rattle.text.proofs.FaultLaws.{lined_ok, lined_err, whole_ok, whole_err}
+use Rattle.text.proofs.WalkLaws.{text_end, text_broken, text_refused, text_passed, lent_whole, line_in, after_in, line_fits, after_fits, left_falls}
 use Rattle.log_line.specs.Step.{Step, link_count}
 use Rattle.log_line.specs.Format.{Known, judge_step, judge_line, conclude}
 use Rattle.log_line.specs.Answers.{refusal_number, order_of}
@@ -25,6 +28,7 @@ use Rattle.log_store.specs.Stores.{knowing, Added, LineAdded}
 use Rattle.log_store.specs.Buffer.{begins, links, buffer_of}
 use Rattle.log_walk.specs.Filled.{answer_of, filled_by}
 use Rattle.log_line.specs.declared.refusals.Refusal.{Refusal}
+use Rattle.log_line.specs.declared.refusals.Refusal.TheVariants.{Malformed}
 use Rattle.log_line.specs.declared.header.ColumnOrder.{ColumnOrder}
 use Rattle.log_line.specs.declared.preds.Links.{Links}
 use Rattle.log_step.specs.declared.StepValues.{StepValues}
@@ -74,6 +78,36 @@ steps_all : (count : ℕ) (o : ColumnOrder) (rest : List ℕ) (xs : List Step)
 unfolding steps_read
 steps_all count o rest xs e z = ap conclude e ∙ rw (ne_eqb (length xs) 0 z)
 
+-- What is found of the line that begins at a place, with its number. Where it ends holds whatever the refusal of a broken one, and however long it may be.
+module _ {R : Type 0} (otherwise : R) (most : ℕ) (text : List ℕ) (at line : ℕ)
+    (b : Result ℕ R) (given : b ≡ whole_or otherwise (line_of most (take (length text - at) (drop at text))))
+    (r : Result ℕ (Fault R)) (said : r ≡ in_line line b) where
+  pub line_broken : (f : Fault R) → r ≡ Err f
+      → (g : LineFault) × (line_of most (take (length text - at) (drop at text)) ≡ Err g) × (f.refusal ≡ otherwise) × (f.line ≡ line)
+  line_broken f p =
+      let e = lined_err line b f (sym said ∙ p) in
+      let w = whole_err otherwise (line_of most (take (length text - at) (drop at text))) f.refusal (sym given ∙ e.0) in
+      (w.0, w.1, w.2, e.1)
+
+  module _ (e : ℕ) (p : r ≡ Ok e) where
+    pub line_whole : line_of most (take (length text - at) (drop at text)) ≡ Ok e
+    line_whole = whole_ok otherwise (line_of most (take (length text - at) (drop at text))) e (sym given ∙ lined_ok line b e (sym said ∙ p))
+
+    pub end_in : at + e ≤ length text
+    end_in = line_in text at most _ refl e line_whole
+
+    pub next_in : at + e + 1 ≤ length text
+    next_in = after_in text at most _ refl e line_whole
+
+    pub end_fits : length text < 2 ^ 64 → at + e < 2 ^ 64
+    end_fits = line_fits text at most _ refl e line_whole
+
+    pub next_fits : length text < 2 ^ 64 → at + e + 1 < 2 ^ 64
+    next_fits = after_fits text at most _ refl e line_whole
+
+    pub rest_falls : length text - (at + e + 1) < length text - at
+    rest_falls = left_falls text at most _ refl e line_whole
+
 -- ---- the loop
 
 module _ (text : List ℕ) (start count : ℕ) (o : ColumnOrder) (at v edges : ℕ) (buffer : List ℕ)
@@ -105,77 +139,90 @@ module _ (text : List ℕ) (start count : ℕ) (o : ColumnOrder) (at v edges : �
 
   -- ---- a line
 
-  module _ (r : Result ℕ LineFault) (given : r ≡ line_of 240 (take (length text - at) (drop at text))) where
-    module _ (h : at < length text) (f : LineFault) (p : r ≡ Err f) where
-      broken : all ≡ faulty 21 (v + 2)
-      broken = text_broken (judge_line count) (knowing (order_of o) g.known) (v + 2) text at all g.ahead 240 r given 21 (not_whole count) h f p
+  module _ (b : Result ℕ Refusal) (given : b ≡ whole_or Malformed (line_of 240 (take (length text - at) (drop at text))))
+      (r : Result ℕ (Fault Refusal)) (said : r ≡ in_line (v + 2) b) where
+    module _ (h : at < length text) (f : Fault Refusal) (p : r ≡ Err f) where
+      broken : all ≡ faulty (refusal_number f.refusal) f.line
+      broken =
+          let w = line_broken Malformed 240 text at (v + 2) b given r said f p in
+          text_broken (judge_line count) (knowing (order_of o) g.known) (v + 2) text at all g.ahead 240 _ refl 21 (not_whole count) h w.0 w.1
+          ∙ sym (ap₂ (λ (x : Refusal) (n : ℕ). faulty (refusal_number x) n) w.2 w.3)
 
-      pub broken_answered : refused_at 21 (v + 2) ≡ answer_of (steps_read count (order_of o) (drop start text))
-      broken_answered = sym (ap answer_of (steps_fault count o (drop start text) 21 (v + 2) broken))
+      pub broken_answered : refused_at (refusal_number f.refusal) f.line ≡ answer_of (steps_read count (order_of o) (drop start text))
+      broken_answered = sym (ap answer_of (steps_fault count o (drop start text) (refusal_number f.refusal) f.line broken))
 
       pub broken_filled : (log : List ℕ) → log ≡ filled_by (steps_read count (order_of o) (drop start text)) log
-      broken_filled log = sym (ap (λ (k : Outcome Known). filled_by k log) (steps_fault count o (drop start text) 21 (v + 2) broken))
+      broken_filled log = sym (ap (λ (k : Outcome Known). filled_by k log) (steps_fault count o (drop start text) (refusal_number f.refusal) f.line broken))
 
     module _ (e : ℕ) (p : r ≡ Ok e) (a : Result (StepValues × Links) Refusal) (new : List ℕ) (m : ℕ) (same : m ≡ count)
         (added : LineAdded m v edges (order_of o) (split 32 (take (at + e - at) (drop at text))) buffer a new) where
       d : LineAdded count v edges (order_of o) (split 32 (take (at + e - at) (drop at text))) buffer a new
       d = subst (λ (k : ℕ). LineAdded k v edges (order_of o) (split 32 (take (at + e - at) (drop at text))) buffer a new) same added
 
+      here : line_of 240 (take (length text - at) (drop at text)) ≡ Ok e
+      here = line_whole Malformed 240 text at (v + 2) b given r said e p
+
       judged : judge_line count (knowing (order_of o) g.known) (v + 2) (record { bytes = take (at + e - at) (drop at text); newline = true })
           ≡ judge_step count (knowing (order_of o) g.known) (v + 2) (split 32 (take (at + e - at) (drop at text)))
       judged =
-          let w = lent_whole (judge_line count) (knowing (order_of o) g.known) (v + 2) text at all g.ahead 240 r given e p in
+          let w = lent_whole (judge_line count) (knowing (order_of o) g.known) (v + 2) text at all g.ahead 240 _ refl e here in
           rw (w, ne_eqb (v + 2) 1 (λ z. omega arith))
 
       outcome : Added count v (order_of o) (split 32 (take (at + e - at) (drop at text))) g.known a new
       outcome = d.added g.known g.counted g.linked g.stored
 
-      module _ (f : Refusal) (q : a ≡ Err f) where
-        refusing : all ≡ faulty (refusal_number f) (v + 2)
-        refusing =
-            text_refused (judge_line count) (knowing (order_of o) g.known) (v + 2) text at all g.ahead 240 r given e p (refusal_number f)
-            (judged ∙ subst (λ (b : Result (StepValues × Links) Refusal). Added count v (order_of o) (split 32 (take (at + e - at) (drop at text))) g.known b new) q outcome)
+      module _ (s : Result (StepValues × Links) (Fault Refusal)) (told : s ≡ in_line (v + 2) a) where
+        module _ (f : Fault Refusal) (q : s ≡ Err f) where
+          refusing : all ≡ faulty (refusal_number f.refusal) f.line
+          refusing =
+              let l = lined_err (v + 2) a f (sym told ∙ q) in
+              text_refused (judge_line count) (knowing (order_of o) g.known) (v + 2) text at all g.ahead 240 _ refl e here (refusal_number f.refusal)
+              (judged ∙ subst (λ (b : Result (StepValues × Links) Refusal). Added count v (order_of o) (split 32 (take (at + e - at) (drop at text))) g.known b new) l.0 outcome)
+              ∙ sym (ap (faulty (refusal_number f.refusal)) l.1)
 
-        pub refused_answered : refused_at (refusal_number f) (v + 2) ≡ answer_of (steps_read count (order_of o) (drop start text))
-        refused_answered =
-            sym (ap answer_of (steps_fault count o (drop start text) (refusal_number f) (v + 2) refusing))
+          pub refused_answered : refused_at (refusal_number f.refusal) f.line ≡ answer_of (steps_read count (order_of o) (drop start text))
+          refused_answered =
+              sym (ap answer_of (steps_fault count o (drop start text) (refusal_number f.refusal) f.line refusing))
 
-        pub refused_filled : (log : List ℕ) → log ≡ filled_by (steps_read count (order_of o) (drop start text)) log
-        refused_filled log = sym (ap (λ (k : Outcome Known). filled_by k log) (steps_fault count o (drop start text) (refusal_number f) (v + 2) refusing))
+          pub refused_filled : (log : List ℕ) → log ≡ filled_by (steps_read count (order_of o) (drop start text)) log
+          refused_filled log = sym (ap (λ (k : Outcome Known). filled_by k log) (steps_fault count o (drop start text) (refusal_number f.refusal) f.line refusing))
 
-      module _ (w : StepValues × Links) (q : a ≡ Ok w) where
-        pub values_limits : InLimits w.1.count v edges
-        values_limits = (subst (Limited v edges) q d.limits).1
+        module _ (w : StepValues × Links) (is : s ≡ Ok w) where
+          q : a ≡ Ok w
+          q = lined_ok (v + 2) a w (sym told ∙ is)
 
-        pub step_more : v + 1 ≤ 1024
-        step_more = let h = values_limits.step in omega arith
+          pub values_limits : InLimits w.1.count v edges
+          values_limits = (subst (Limited v edges) q d.limits).1
 
-        pub links_more : edges + w.1.count ≤ 4096
-        links_more = values_limits.all
+          pub step_more : v + 1 ≤ 1024
+          step_more = let h = values_limits.step in omega arith
 
-        read_on : Reading text start count o (at + e + 1) (v + 1) (edges + w.1.count) new
-        read_on = go (subst (λ (b : Result (StepValues × Links) Refusal). Added count v (order_of o) (split 32 (take (at + e - at) (drop at text))) g.known b new) q outcome)
-          where
-            go : Added count v (order_of o) (split 32 (take (at + e - at) (drop at text))) g.known (Ok w) new
-                → Reading text start count o (at + e + 1) (v + 1) (edges + w.1.count) new
-            go (us, size, passes, stored) =
-                let x : Step = record { board = w.0.board; labels = w.0.labels; preds = us } in
-                let n : v + 2 + 1 ≡ v + 1 + 2 = omega arith in
-                record {
-                  known = g.known ++ (record { board = w.0.board; labels = w.0.labels; preds = us } ∷ []);
-                  ahead =
-                      text_passed (judge_line count) (knowing (order_of o) g.known) (v + 2) text at all g.ahead 240 r given e p
-                      (knowing (order_of o) (g.known ++ (record { board = w.0.board; labels = w.0.labels; preds = us } ∷ []))) (judged ∙ passes)
-                      ∙ ap (λ (n : ℕ). walk (judge_line count) (knowing (order_of o) (g.known ++ (record { board = w.0.board; labels = w.0.labels; preds = us } ∷ []))) n
-                      (lines_of (drop (at + e + 1) text))) n;
-                  counted = length-append g.known (record { board = w.0.board; labels = w.0.labels; preds = us } ∷ [])
-                      ∙ (let c = g.counted in omega arith);
-                  linked = count_more g.known (record { board = w.0.board; labels = w.0.labels; preds = us }) ∙ (let c = g.linked in omega arith);
-                  stored = stored;
-                }
+          pub links_more : edges + w.1.count ≤ 4096
+          links_more = values_limits.all
 
-        pub reading_more : (v' : ℕ) → v' ≡ v + 1 → (edges' : ℕ) → edges' ≡ edges + w.1.count → Reading text start count o (at + e + 1) v' edges' new
-        reading_more v' p edges' q' = rw (p, q') read_on
+          read_on : Reading text start count o (at + e + 1) (v + 1) (edges + w.1.count) new
+          read_on = go (subst (λ (b : Result (StepValues × Links) Refusal). Added count v (order_of o) (split 32 (take (at + e - at) (drop at text))) g.known b new) q outcome)
+            where
+              go : Added count v (order_of o) (split 32 (take (at + e - at) (drop at text))) g.known (Ok w) new
+                  → Reading text start count o (at + e + 1) (v + 1) (edges + w.1.count) new
+              go (us, size, passes, stored) =
+                  let x : Step = record { board = w.0.board; labels = w.0.labels; preds = us } in
+                  let n : v + 2 + 1 ≡ v + 1 + 2 = omega arith in
+                  record {
+                    known = g.known ++ (record { board = w.0.board; labels = w.0.labels; preds = us } ∷ []);
+                    ahead =
+                        text_passed (judge_line count) (knowing (order_of o) g.known) (v + 2) text at all g.ahead 240 _ refl e here
+                        (knowing (order_of o) (g.known ++ (record { board = w.0.board; labels = w.0.labels; preds = us } ∷ []))) (judged ∙ passes)
+                        ∙ ap (λ (n : ℕ). walk (judge_line count) (knowing (order_of o) (g.known ++ (record { board = w.0.board; labels = w.0.labels; preds = us } ∷ []))) n
+                        (lines_of (drop (at + e + 1) text))) n;
+                    counted = length-append g.known (record { board = w.0.board; labels = w.0.labels; preds = us } ∷ [])
+                        ∙ (let c = g.counted in omega arith);
+                    linked = count_more g.known (record { board = w.0.board; labels = w.0.labels; preds = us }) ∙ (let c = g.linked in omega arith);
+                    stored = stored;
+                  }
+
+          pub reading_more : (v' : ℕ) → v' ≡ v + 1 → (edges' : ℕ) → edges' ≡ edges + w.1.count → Reading text start count o (at + e + 1) v' edges' new
+          reading_more v' p edges' q' = rw (p, q') read_on
 
 pub ruleset reading_kit = (
   reading_none,
@@ -184,13 +231,10 @@ pub ruleset reading_kit = (
   none_filled,
   all_answered,
   all_filled,
-  broken_answered,
-  broken_filled,
-  refused_answered,
-  refused_filled,
   values_limits,
   step_more,
   links_more,
-  reading_more,
-  walk_numbers,
+  end_fits,
+  next_fits,
+  rest_falls,
 )

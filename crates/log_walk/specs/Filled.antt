@@ -6,11 +6,12 @@ use Rattle.text.specs.Walk.{Outcome, accepted, faulty}
 use Rattle.layout.specs.Layout.{log_length}
 use Rattle.log_line.specs.Format.{Known}
 use Rattle.log_line.specs.Answers.{refusal_number}
-use Rattle.log_line.specs.declared.refusals.Fault.{Fault}
+use Rattle.text.specs.declared.faults.Fault.{Fault}
+use Rattle.log_line.specs.declared.refusals.Refusal.{Refusal}
 use Rattle.log_store.specs.Buffer.{buffer_of}
 
 -- The answer but for its byte that the reader's result stands for.
-abbrev pub answered : Result ℕ Fault → Answer
+abbrev pub answered : Result ℕ (Fault Refusal) → Answer
 answered (Ok n) = accepted_with n
 answered (Err f) = refused_at (refusal_number f.refusal) f.line
 

@@ -7,13 +7,14 @@ ghost use Rattle.log_walk.specs.Filled.{answered, answer_of, filled_by};
 ghost use Rattle.log_walk.specs.Reading.{steps_read};
 
 use log_line::header::ColumnOrder;
-use log_line::refusals::{Fault, Refusal};
+use log_line::refusals::Refusal;
 use log_step::Position;
 use log_store::add_line;
-use text::lines::read_line;
+use text::faults::{Fault, in_line};
+use text::lines::whole_line;
 
-// How many steps a text has whose header ends before `start`. Each fault is returned by hand: behind `map_err(..)?` what the walk answers
-// (`returns-in_err-n`, `returns-in_err-values`) did not prove.
+// How many steps a text has whose header ends before `start`. The place goes on by a line's length, so no `for` counts it.
+// `pattern_walk::read_rows` goes alike: one loop for both would be handed what judges a line and what it leaves, and be longer than the two.
 #[tactic(auto, using(crate::proofs::ReadLaws::reading_kit))]
 pub fn read_steps(
     text: &[u8],
@@ -21,7 +22,7 @@ pub fn read_steps(
     order: ColumnOrder,
     labels: u16,
     log: &mut [u16],
-) -> Result<u16, Fault>
+) -> Result<u16, Fault<Refusal>>
     requires { (start ≤ length text.now) × (labels ≤ 16) × (7170 ≤ length log.old) }
     ensures value { answered result ≡ answer_of (steps_read labels (order_of order) (drop start text.now)) }
     ensures log_after { log.new ≡ filled_by (steps_read labels (order_of order) (drop start text.now)) log.old }
@@ -31,20 +32,15 @@ pub fn read_steps(
     let mut position = Position::start(labels);
     while at < text.len() {
         let line = position.step + 2;
-        let Ok(n) = read_line(&text[at..], layout::MOST_LINE) else {
-            return Err(Fault {
-                refusal: Refusal::Malformed,
-                line,
-            });
-        };
+        let n = in_line(
+            whole_line(&text[at..], layout::MOST_LINE, Refusal::Malformed),
+            line,
+        )?;
         let end = at + n;
-        match add_line(&text[at..end], order, position, &mut buffer) {
-            Err(refusal) => return Err(Fault { refusal, line }),
-            Ok((_, links)) => {
-                position = position.after(links.count);
-                at = end + 1;
-            }
-        }
+        let added = add_line(&text[at..end], order, position, &mut buffer);
+        let (_, links) = in_line(added, line)?;
+        position = position.after(links.count);
+        at = end + 1;
     }
     if position.step == 0 {
         return Err(Fault {

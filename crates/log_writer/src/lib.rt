@@ -1,22 +1,11 @@
 // Writes a log buffer back as a text.
 #![tactic(auto)]
 
-ghost use Rattle.std.specs.Prelude.{◌≤◌, ◌≡◌, length};
-ghost use Rattle.log_texts.specs.Spelled.{text_of};
-ghost use Rattle.log_layout.specs.Tested.{Tested};
+ghost use Rattle.std.specs.Prelude.{◌≤◌, ◌≡◌};
 ghost use Rattle.log_writer.specs.Writer.{write_answer, text_after, fit_answer, fit_after};
 
 use answer::Answer;
-use log_layout::lay_log;
-
-// How long the text is: laid out over no places.
-fn measure(log: &[u16]) -> usize
-    requires { Tested log.now }
-    ensures { result ≡ length (text_of log.now) }
-{
-    let mut nowhere = [0u8; 0];
-    lay_log(&mut nowhere, log)
-}
+use log_layout::{TestedLog, lay_log};
 
 // Tests 7 and 8, and the text, for a log buffer of its documented length.
 #[tactic(auto, using(crate::proofs::Fits::text_kit))]
@@ -28,12 +17,12 @@ fn write_fit(log: &[u16], labels: u16, text: &mut [u8]) -> Answer
     if !log_test::is_log(log, labels) {
         return answer::refused(7, 0);
     }
-    let n = measure(log);
-    if text.len() < n {
-        return answer::refused(8, 0);
+    let tested = TestedLog { numbers: log };
+    // The cast keeps the length: it is proved to fit. `u16::try_from` would ask for an answer to a length that cannot be.
+    match writing::lay(text, |room| lay_log(room, tested)) {
+        None => answer::refused(8, 0),
+        Some(n) => answer::accepted(n as u16),
     }
-    lay_log(text, log);
-    answer::accepted(n as u16)
 }
 
 // Writes a log buffer of 7,170 numbers, which passes its test under the label count, as a text. Accepted, the text stands in front of the
@@ -46,7 +35,7 @@ pub fn write_log(log: &[u16], labels: u16, text: &mut [u8]) -> Answer
     if log.len() < layout::LOG_LENGTH {
         return answer::refused(1, 0);
     }
-    if !(1..=16).contains(&labels) {
+    if !(1..=layout::MOST_LABELS).contains(&usize::from(labels)) {
         return answer::refused(5, 0);
     }
     write_fit(&log[..layout::LOG_LENGTH], labels, text)

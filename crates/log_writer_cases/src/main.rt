@@ -1,6 +1,5 @@
 // The log writer on the rooms that texts give: those of `cases.txt`, a line a case, then those of the program `log_cases`
-// (`texts.txt` is a copy of its file). At the end, how many cases there were of each kind and how many got each answer; `names.txt` has
-// the names of the counts.
+// (`texts.txt` is a copy of its file). At the end, how many cases there were of each kind and how many got each answer.
 //
 // A line of a file has its columns parted by tabs: what is tried; the label count that the reader is handed; the log as a script
 // (`script::expand`), `=` for the listing of document 01 (`log.txt`); and settings (crate `settings`). These are `c`: the label count
@@ -11,12 +10,10 @@
 
 use answer::Answer;
 use settings::Settings;
+use std::io;
 use std::rt::Files;
-use std::{fs, io};
-use text_room::{Case, Kind, Kinds, Writer, try_writer};
+use text_room::{Case, Kind, Kinds, Writer, try_files, try_writer};
 use trial::column;
-
-const OTHER_COUNT: Kind = Kind::Own(0);
 
 // The log writer with its label count, with which the log is read back too.
 #[derive(Clone, Copy)]
@@ -47,14 +44,7 @@ impl Writer for LogWriter {
 }
 
 fn main(rt: HostRuntime) -> io::Result<()> {
-    let mut kinds = Kinds::new();
-    for path in ["cases.txt", "texts.txt"] {
-        let file = fs::read_to_string(&rt, path)?;
-        for line in file.lines() {
-            try_case(&rt, line, &mut kinds)?;
-        }
-    }
-    kinds.print(&rt)
+    try_files(&rt, |line, kinds| try_case(&rt, line, kinds))
 }
 
 fn try_case(
@@ -66,14 +56,14 @@ fn try_case(
     let text = script::load(rt, column(line, 2), "log.txt", 66000)?;
     let labels = column(line, 1).parse().unwrap_or(0);
     let mut log = outcome::marked(rt.alloc(), 7176)?;
-    if log_reader::read_log(&text, labels, &mut log).number > 0 {
+    if !log_reader::read_log(&text, labels, &mut log).is_accepted() {
         kinds.add(Kind::Unread);
         return Ok(());
     }
     kinds.change(settings, 'l', &mut log);
 
     let handed = settings.value('c').unwrap_or(labels);
-    kinds.add_if(OTHER_COUNT, handed != labels);
+    kinds.add_if(Kind::OtherCount, handed != labels);
     let case = Case {
         name: column(line, 0),
         settings,

@@ -57,7 +57,8 @@ impl Written for WrittenLog {
     }
 }
 
-// At most 3 steps, 257 to 512 steps, or up to 60.
+// At most 3 steps, 257 to 512 steps, or up to 60. The kind is the trial's index, a number: an enum would need a table from index to kind
+// beside this one from kind to count.
 fn step_count(kind: u64, x: u16) -> u16 {
     match kind {
         0 => 1 + x % 3,
@@ -66,15 +67,15 @@ fn step_count(kind: u64, x: u16) -> u16 {
     }
 }
 
-// The step count, any number, or a label set, a board, a beginning or a link that the log has.
+// The step count, any number, or a label set, a board, a beginning or a link that the log has; which is drawn, a number, and matched at once.
 fn place_of(log: &LogRoom, kind: u64, x: u16) -> usize {
     let step = usize::from(reduced(x, log.step_count()));
     match kind {
         0 => 0,
-        1 => usize::from(x) % 7170,
-        2 => 1 + step,
-        3 => 1025 + step,
-        4 => 2050 + step,
-        _ => 3074 + usize::from(reduced(x, log.link_count())),
+        1 => usize::from(x) % LogRoom::LENGTH,
+        2 => LogRoom::SETS + step,
+        3 => LogRoom::BOARDS + step,
+        4 => LogRoom::BEGINS + 1 + step,
+        _ => LogRoom::LINKS + usize::from(reduced(x, log.link_count())),
     }
 }

@@ -130,7 +130,7 @@ module _ (log : List ℕ) (count : ℕ) (text : List ℕ) (t : T (accepts log co
   written_fits =
       let p = passed_tests in
       let e = ap (λ (a : Answer). a.count) answer_counts in
-      omega (arith, text_fits (take log_length log) (record { count = count; fit = p.few; log_passes = p.log_passes }))
+      omega (arith, text_fits count (take log_length log) p.few p.log_passes)
 
   -- Reading the output under the label count handed in gives the log buffer back.
   pub log_read_back : ReadBack log count (output log count text)

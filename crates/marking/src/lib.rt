@@ -1,4 +1,5 @@
 // A bead marked at the steps that some lane of a pass reaches.
+// Rooms are slices of at least so many numbers, as each contract says: an array, or a struct with the bound, would take fewer or be made anew at each call.
 #![tactic(auto)]
 
 ghost use Rattle.std.specs.Prelude.{◌≡◌, ◌<◌, ◌≤◌, length};
@@ -24,7 +25,8 @@ fn is_found(found: &[u16], step: usize) -> bool
     found[step] != 0
 }
 
-// Adds the bead to the prefixes of the steps from u on that some lane reaches.
+// Adds the bead to the prefixes of the steps from u on that some lane reaches. The bead and the bounds are those of the caller's loop: a struct of
+// the three would be made for one call here and one of `all_marked`.
 #[tactic(auto, using(crate::proofs::AddLaws::reached_kit))]
 pub fn mark_found(bead: usize, u: usize, n: usize, found: &[u16], prefixes: &mut [u16])
     requires { (bead < 16) × (u < n) × (n ≤ 1024) × (1024 ≤ length found.now) × (1024 ≤ length prefixes.old) }

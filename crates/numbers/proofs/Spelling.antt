@@ -83,9 +83,6 @@ spelled (b ∷ (c ∷ bs)) p t =
     first : (b : ℕ) → 48 ≤ b → (b ≡ 48 → ⊥) → 0 < 0 * 10 + (b - 48)
     first b h n = omega arith
 
-some_injective : {a b : ℕ} → ◌≡◌ {A = Option ℕ} (Some a) (Some b) → a ≡ b
-some_injective e = cc
-
 -- What a field that is a number says of its bytes.
 pub decimal_out : (most : ℕ) (bs : List ℕ) (n : ℕ) → decimal most bs ≡ Some n → T (plain bs) × T (digits bs) × (value_from 0 bs ≡ n) × (n ≤ most)
 unfolding decimal

@@ -14,9 +14,10 @@ fn at_end(size: usize, value: u32) -> Result<(u16, usize), usize>
     ensures { result ≡ end_of size value }
 {
     if size == 0 {
-        return Err(0);
+        Err(0)
+    } else {
+        Ok((value as u16, size))
     }
-    Ok((value as u16, size))
 }
 
 // Bytes that begin with a zero: it stands alone, since no digit may follow it.
@@ -25,13 +26,11 @@ fn read_zero(bytes: &[u8], separator: u8) -> Result<(u16, usize), usize>
     requires { (0 < length bytes.now) × (get_or bytes.now 0 0 ≡ 48) × (separator < 48) }
     ensures { result ≡ first_read separator bytes.now }
 {
-    if bytes.len() == 1 {
-        return Ok((0, 1));
+    if bytes.len() == 1 || bytes[1] == separator {
+        Ok((0, 1))
+    } else {
+        Err(1)
     }
-    if bytes[1] == separator {
-        return Ok((0, 1));
-    }
-    Err(1)
 }
 
 // Bytes that do not: digits up to the separator or the end.
@@ -73,8 +72,9 @@ pub fn read_number(bytes: &[u8], separator: u8) -> Result<(u16, usize), usize>
     }
 }
 
-// The number in the field with this index; a field that is not there is none.
+// The number in the field with this index; a field that is not there is none. Inlined, so that a line's fields need not be handed on through memory.
 #[tactic(auto, using(crate::proofs::ColumnLaws::column_kit))]
+#[inline(always)]
 pub fn number_at<const N: usize>(fields: &Fields<N>, index: usize) -> Option<u16>
     ensures { result ≡ number_of (get_or (split 32 fields.now.line.now) index []) }
 {

@@ -12,13 +12,13 @@ impl Settled {
         let mut row = [0; 10];
         row[0] = self.begun(v) >> 1;
         let mut pivot = 0;
-        for k in 0..self.beads {
+        for (k, place) in (0..self.beads).zip(row[2..].iter_mut()) {
             let serves = |w: &u16| has(get(&left, usize::from(*w)) >> 1 & self.on(pivot, *w), k);
             let Some(found) = (0..=v).find(serves) else {
-                return row;
+                break;
             };
             pivot = found;
-            put(&mut row[2..], usize::from(k), pivot);
+            *place = found;
         }
         row
     }

@@ -3,7 +3,7 @@ use crate::STEPS;
 use crate::pairs::Pairs;
 use places::only;
 
-// No bead holds at step 0 alone.
+// No bead holds at step 0 alone. Filled by index: a place is made from those before it in the same array.
 pub fn settle_prefixes(steps: u16, pairs: &Pairs) -> [u16; STEPS] {
     let mut begun = [0; STEPS];
     begun[0] = 1;

@@ -40,7 +40,8 @@ impl Settled {
         row
     }
 
-    // Each pivot is the smallest step that serves. The one before the first bead comes out as 0: no other has bit 0.
+    // Each pivot is the smallest step that serves. The one before the first bead comes out as 0: no other has bit 0. Filled by index, from
+    // the last bead down: a `zip` would have to turn round a part of the row, and say its length twice.
     fn fill_pivots(&self, v: u16, row: &mut Row) {
         let mut pivot = v;
         let pivots = &mut row[1..];

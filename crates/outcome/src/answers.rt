@@ -22,7 +22,7 @@ pub fn try_marked<F: FnOnce(&mut [u16]) -> Answer>(
     Ok((answer, buffer))
 }
 
-// `name: number n line l byte b count c`, with no line end.
+// `name: number n line l byte b count c`, with no line end. No `Display`: the type is another crate's, and this is the one place that prints it.
 pub fn print_answer(rt: &impl Print, name: &str, a: Answer) -> io::Result<()> {
     print!(rt;
         "{name}: number {} line {} byte {} count {}",
@@ -30,7 +30,7 @@ pub fn print_answer(rt: &impl Print, name: &str, a: Answer) -> io::Result<()> {
     )
 }
 
-// After number 0 the sum of sums, after a refusal whether the marks are unchanged.
+// After number 0 the sum of sums, after a refusal whether the marks are unchanged. By the number, since a case tries both ways.
 pub fn print_buffer(rt: &impl Print, number: u16, s: &[u16]) -> io::Result<()> {
     if number == 0 {
         print!(rt; " sum {}", sum_of_sums(s))

@@ -8,6 +8,7 @@ use Rattle.pattern_buffer.specs.Meaning.{labels_in, automaton_of, pattern_of}
 use Rattle.log_buffer.specs.Meaning.{steps_in, log_of}
 use Rattle.log_links.specs.Links.{Laid}
 use Rattle.entering.specs.Entering.{BeadIn}
+use Rattle.hope.specs.Hope.{HopefulSet}
 use Rattle.pass_steps.specs.PassSteps.{lane_reaches}
 use Rattle.pass_steps.specs.declared.Pass.{Pass}
 
@@ -26,7 +27,10 @@ pub record Found (pattern log : List ℕ) (k : ℕ) (seeds : List ℕ) (first un
 -- ---- the same, by what a pass is made of
 
 abbrev pub PassFor : Pass → Type 0
-PassFor pass = PassOf pass.bead.pattern.now pass.log.numbers.now pass.bead.place
+PassFor pass = PassOf pass.bead.pattern.now pass.log.now pass.bead.place
+
+abbrev pub HopefulBy : Pass → Type 0
+HopefulBy pass = HopefulSet pass.bead.pattern.now pass.bead.place pass.hopeful
 
 abbrev pub FoundOf : Pass → List ℕ → Type 0
-FoundOf pass found = Found pass.bead.pattern.now pass.log.numbers.now pass.bead.place pass.seeds.now pass.first pass.until found
+FoundOf pass found = Found pass.bead.pattern.now pass.log.now pass.bead.place pass.seeds.now pass.first pass.until found

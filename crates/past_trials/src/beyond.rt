@@ -2,7 +2,7 @@
 use changed_logs::{Past, change_beyond, past_of};
 use judged_pairs::{Noise, Pair};
 use random_inputs::Links;
-use std::io;
+use std::fmt;
 use std::num::Wrapping;
 use trial::Random;
 
@@ -19,15 +19,8 @@ pub struct Counts {
 }
 
 impl Counts {
-    pub fn try_pairs(&mut self, pairs: u64) {
-        let mut random = Random::new(2);
-        for i in 0..pairs {
-            self.try_pair(i, &mut random);
-        }
-    }
-
     // The trial's index says how many beads, and how the links are drawn. The second log has up to 20 steps beyond the step.
-    fn try_pair(&mut self, i: u64, random: &mut Random) {
+    pub fn try_pair(&mut self, i: u64, random: &mut Random) {
         let way = Links::WAYS.get((i / 8 % 6) as usize).copied();
         let pair = Pair::draw((1 + i % 8) as u16, way, random, |random| {
             1 + random.draw(40) as u16
@@ -65,15 +58,21 @@ impl Counts {
         self.with_prefix += u64::from(prefixes != 0);
         self.whole += u64::from(places::has(prefixes, beads.wrapping_sub(1)));
     }
+}
 
-    pub fn print(&self, rt: &impl Print) -> io::Result<()> {
-        println!(rt; "pairs of logs alike in the past of a step: {}", self.pairs)?;
-        println!(rt; "rows of that past compared: {}", self.rows)?;
-        println!(rt; "  rows with a prefix: {}", self.with_prefix)?;
-        println!(rt; "  whole necklaces: {}", self.whole)?;
-        println!(rt; "  rows that differ: {}", self.differing)?;
-        println!(rt; "rows of other steps in both logs: {}", self.elsewhere)?;
-        println!(rt; "  rows that differ: {}", self.elsewhere_differing)?;
-        println!(rt; "logs refused: {}", self.refused)
+impl fmt::Display for Counts {
+    fn fmt<W: fmt::Write>(&self, f: &mut fmt::Formatter<W>) -> fmt::Result {
+        writeln!(
+            f,
+            "pairs of logs alike in the past of a step: {}",
+            self.pairs
+        )?;
+        writeln!(f, "rows of that past compared: {}", self.rows)?;
+        writeln!(f, "  rows with a prefix: {}", self.with_prefix)?;
+        writeln!(f, "  whole necklaces: {}", self.whole)?;
+        writeln!(f, "  rows that differ: {}", self.differing)?;
+        writeln!(f, "rows of other steps in both logs: {}", self.elsewhere)?;
+        writeln!(f, "  rows that differ: {}", self.elsewhere_differing)?;
+        writeln!(f, "logs refused: {}", self.refused)
     }
 }

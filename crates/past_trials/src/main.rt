@@ -2,12 +2,13 @@
 #![tactic(auto)]
 
 use beyond::Counts;
+use judged_pairs::try_pairs;
 use std::io;
 
 mod beyond;
 
 fn main(rt: HostRuntime) -> io::Result<()> {
     let mut counts = Counts::default();
-    counts.try_pairs(1600);
-    counts.print(&rt)
+    try_pairs(1600, 2, |i, random| counts.try_pair(i, random));
+    print!(rt; "{counts}")
 }

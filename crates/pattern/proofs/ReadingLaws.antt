@@ -1,13 +1,15 @@
 -- The reader's parts over the whole text: the conclusion, and the answer of the call.
 -- Assumes nothing.
-use mathlib.Core.Path.{◌≡◌, refl, sym, ap, ap₂, ◌∙◌, subst}
+use mathlib.Core.Path.{◌≡◌, refl, sym, ap, ◌∙◌, subst}
 use mathlib.Core.Bool.{Bool, true, false, cond}
 use mathlib.Core.List.{List, [], ◌∷◌, ◌++◌}
-use Prim.Native.Nat.{ℕ, ◌+◌, ◌-◌, ◌≤◌, ◌<◌}
+use Prim.Native.Nat.{ℕ, ◌+◌, ◌≤◌, ◌<◌}
 use native.Mathlib.Omega.{arith}
-use borrow.Author.Tests.{eq-eqb, ne_eqb, lt-ltb, le-ltb, eqb-true, eqb-false}
+use borrow.Author.Tests.{eq-eqb, ne_eqb, eqb-true, eqb-false}
+use borrow.Rule.Slice.PartMut.{put_mid}
 use lib.Dec.{eqb}
-use lib.ListN.{length, get_or, drop, set, replicate, length-replicate, get_or-replicate}
+use lib.ListN.{length, get_or, take, drop, set, replicate, length-replicate, get_or-replicate}
+use lib.Seq.{length-take-le}
 use Rattle.answer.specs.declared.Answer.{Answer}
 use Rattle.answer.specs.Answers.{accepted_with, refused_at, refused_in}
 use Rattle.std.specs.Prelude.{Result, Ok, Err}
@@ -25,7 +27,8 @@ use Rattle.pattern_line.specs.Answers.{refusal_number}
 use Rattle.pattern_late.specs.Late.{Bounded, late_faults, late_said}
 use Rattle.pattern_walk.specs.Reading.{HeaderRead, FirstTold, FirstRead, LinesRead, RowsTold, RowsRead}
 use Rattle.pattern.specs.Reading.{text_said, counted, concluded, beads_of, TextRead}
-use Rattle.pattern_line.specs.declared.refusals.Fault.{Fault}
+use Rattle.pattern_line.specs.declared.refusals.Refusal.{Refusal}
+use Rattle.text.specs.declared.faults.Fault.{Fault}
 use Rattle.pattern_store.proofs.BufferLaws.{Holds, buffer_holds, holds_buffer}
 use Rattle.pattern_late.proofs.SlotLaws.{outcome_as, late_rows, bounded}
 use Rattle.pattern.proofs.AcceptedLaws.{Accepted, lines_accepted}
@@ -52,16 +55,16 @@ module _ (b : List ℕ) where
   unfolding concluded
   conclude_none e = sym (rw (eq-eqb (get_or b 1 0) 0 e) refl)
 
-  module _ (n : get_or b 1 0 ≡ 0 → ⊥) (a : Result (Unit {0}) Fault) (said : late_said a ≡ late_faults b) where
+  module _ (n : get_or b 1 0 ≡ 0 → ⊥) (a : Result (Unit {0}) (Fault Refusal)) (said : late_said a ≡ late_faults b) where
     late : concluded b ≡ counted (get_or b 1 0) (late_said a)
     unfolding concluded
     late = rw (ne_eqb (get_or b 1 0) 0 n) (ap (counted (get_or b 1 0)) (sym said))
 
-    pub conclude_fault : (f : Fault) → a ≡ Err f → faulty (refusal_number f.refusal) f.line ≡ concluded b
-    conclude_fault f p = sym (late ∙ ap (λ (x : Result (Unit {0}) Fault). counted (get_or b 1 0) (late_said x)) p)
+    pub conclude_fault : (f : Fault Refusal) → a ≡ Err f → faulty (refusal_number f.refusal) f.line ≡ concluded b
+    conclude_fault f p = sym (late ∙ ap (λ (x : Result (Unit {0}) (Fault Refusal)). counted (get_or b 1 0) (late_said x)) p)
 
     pub conclude_fine : (u : Unit {0}) → a ≡ Ok u → accepted (get_or b 1 0) ≡ concluded b
-    conclude_fine u p = sym (late ∙ ap (λ (x : Result (Unit {0}) Fault). counted (get_or b 1 0) (late_said x)) p)
+    conclude_fine u p = sym (late ∙ ap (λ (x : Result (Unit {0}) (Fault Refusal)). counted (get_or b 1 0) (late_said x)) p)
 
 pub ruleset conclude_kit = (beads_inside, conclude_none, conclude_fault, conclude_fine)
 
@@ -106,7 +109,7 @@ module _ (k : Known) (acc : Accepted k) (b : List ℕ) (h : Holds k b) where
       go false q = late (late_faults b) (sym (late_rows k b h acc.few acc.sound) ∙ q)
 
 -- A refusal before the end of the text stays.
-refused_text : (text : List ℕ) (f : Fault) (b : List ℕ) → read_text pattern_format text ≡ faulty (refusal_number f.refusal) f.line → TextRead text (Err f) b
+refused_text : (text : List ℕ) (f : Fault Refusal) (b : List ℕ) → read_text pattern_format text ≡ faulty (refusal_number f.refusal) f.line → TextRead text (Err f) b
 refused_text text f b e =
     record {
       said = sym (ap (λ (o : Outcome Known). beads_of (conclude o)) e);
@@ -117,19 +120,19 @@ refused_text text f b e =
     never q = let w : ◌≡◌ {A = ℕ} 0 1 = cc in absurd (omega arith)
 
 module _ (text : List ℕ) where
-  pub first_ends : (a : Result (ℕ × ℕ) Fault) → FirstRead text a → (f : Fault) → a ≡ Err f → (b : List ℕ) → TextRead text (Err f) b
+  pub first_ends : (a : Result (ℕ × ℕ) (Fault Refusal)) → FirstRead text a → (f : Fault Refusal) → a ≡ Err f → (b : List ℕ) → TextRead text (Err f) b
   first_ends a d f p b = refused_text text f b (subst (FirstTold text) p d.told)
 
-  pub first_goes : (a : Result (ℕ × ℕ) Fault) → FirstRead text a → (labels at : ℕ) → a ≡ Ok (labels, at) → HeaderRead text labels at
+  pub first_goes : (a : Result (ℕ × ℕ) (Fault Refusal)) → FirstRead text a → (labels at : ℕ) → a ≡ Ok (labels, at) → HeaderRead text labels at
   first_goes a d labels at p = subst (FirstTold text) p d.told
 
-  module _ (a : Result (Unit {0}) Fault) (b : List ℕ) (d : RowsRead text a b) where
-    pub rows_end_text : (f : Fault) → a ≡ Err f → TextRead text (Err f) b
-    rows_end_text f p = refused_text text f b (subst (λ (x : Result (Unit {0}) Fault). RowsTold text x b) p d.told)
+  module _ (a : Result (Unit {0}) (Fault Refusal)) (b : List ℕ) (d : RowsRead text a b) where
+    pub rows_end_text : (f : Fault Refusal) → a ≡ Err f → TextRead text (Err f) b
+    rows_end_text f p = refused_text text f b (subst (λ (x : Result (Unit {0}) (Fault Refusal)). RowsTold text x b) p d.told)
 
     module _ (u : Unit {0}) (p : a ≡ Ok u) where
       all_read : LinesRead text b
-      all_read = subst (λ (x : Result (Unit {0}) Fault). RowsTold text x b) p d.told
+      all_read = subst (λ (x : Result (Unit {0}) (Fault Refusal)). RowsTold text x b) p d.told
 
       read_known : Accepted all_read.known
       read_known = lines_accepted text all_read.known all_read.lines
@@ -140,7 +143,7 @@ module _ (text : List ℕ) where
       pub rows_bounded : Bounded b
       rows_bounded = bounded all_read.known b held read_known.few read_known.sound
 
-      pub text_concluded : (r : Result ℕ Fault) → text_said r ≡ concluded b → TextRead text r b
+      pub text_concluded : (r : Result ℕ (Fault Refusal)) → text_said r ≡ concluded b → TextRead text r b
       text_concluded r e =
           record {
             said = e ∙ sym (ap (λ (o : Outcome Known). beads_of (conclude o)) all_read.lines ∙ concluded_rows all_read.known read_known b held);
@@ -175,10 +178,14 @@ accepted_said : (o : Outcome Known) (c : ℕ) → accepted c ≡ beads_of o → 
 accepted_said (accepted k) c e = (k, refl, cc)
 accepted_said (faulty m l) c e = let w : ◌≡◌ {A = ℕ} 0 1 = cc in absurd (omega arith)
 
-pub refuse_is : (text : List ℕ) (n line b : ℕ) (a : Answer) → b ≡ pattern_byte text n line → a ≡ refused_in n line b → a ≡ refused_with text n line
-refuse_is text n line b a e q = q ∙ ap (refused_in n line) e
+pub refuse_is : (text : List ℕ) (f : Fault Refusal) (n b : ℕ) (a : Answer) → n ≡ refusal_number f.refusal → b ≡ pattern_byte text n f.line → a ≡ refused_in n f.line b
+    → a ≡ refused_with text (refusal_number f.refusal) f.line
+refuse_is text f n b a m e q = q ∙ ap (refused_in n f.line) e ∙ ap (λ (k : ℕ). refused_with text k f.line) m
 
 pub ruleset refuse_kit = (refuse_is)
+
+pub room_part : (room b : List ℕ) → pattern_length ≤ length room → length b ≡ pattern_length → length (take pattern_length room) ≡ length b
+room_part room b f e = length-take-le pattern_length room f ∙ sym e
 
 module _ (text room : List ℕ) where
   module _ (short : length room < pattern_length) where
@@ -188,7 +195,7 @@ module _ (text room : List ℕ) where
     pub after_short : room ≡ pattern_after text room
     after_short = room_kept (host_faults room) room (filled_by (pattern_text text) room) (stopped_below (length room) pattern_length (refused_at 2 0) [] short)
 
-  module _ (fits : pattern_length ≤ length room) (r : Result ℕ Fault) (b : List ℕ) (d : TextRead text r b) where
+  module _ (fits : pattern_length ≤ length room) (r : Result ℕ (Fault Refusal)) (b : List ℕ) (d : TextRead text r b) where
     passed : Passed (host_faults room)
     passed = passed_past (length room) pattern_length (refused_at 2 0) [] fits passed_all
 
@@ -198,12 +205,12 @@ module _ (text room : List ℕ) where
     after_long : pattern_after text room ≡ filled_by (pattern_text text) room
     after_long = sym (room_filled (host_faults room) room (filled_by (pattern_text text) room) (filled_by (pattern_text text) room) passed refl)
 
-    module _ (f : Fault) (p : r ≡ Err f) where
+    module _ (f : Fault Refusal) (p : r ≡ Err f) where
       fault : pattern_text text ≡ faulty (refusal_number f.refusal) f.line
       fault = faulty_said (pattern_text text) (refusal_number f.refusal) f.line (sym (ap text_said p) ∙ d.said)
 
-      pub answer_refused : (n : ℕ) (a : Answer) → n ≡ refusal_number f.refusal → a ≡ refused_with text n f.line → a ≡ pattern_answer text room
-      answer_refused n a e q = q ∙ ap (λ (m : ℕ). refused_with text m f.line) e ∙ sym (answer_long ∙ ap (answer_of text) fault)
+      pub answer_refused : (a : Answer) → a ≡ refused_with text (refusal_number f.refusal) f.line → a ≡ pattern_answer text room
+      answer_refused a q = q ∙ sym (answer_long ∙ ap (answer_of text) fault)
 
       pub after_refused : room ≡ pattern_after text room
       after_refused = sym (after_long ∙ ap (λ (o : Outcome Known). filled_by o room) fault)
@@ -218,15 +225,10 @@ module _ (text room : List ℕ) where
       numbers_are : b ≡ buffer_of known.0
       numbers_are = d.numbers known.0 known.1
 
-      pub numbers_size : length b ≡ pattern_length
-      numbers_size = ap length numbers_are ∙ (buffer_holds known.0).size
-
-      pub numbers_fit : length b ≤ length room
-      numbers_fit = let n = numbers_size in omega arith
-
-      pub after_accepted : (after : List ℕ) → after ≡ b ++ drop (length b) room → after ≡ pattern_after text room
-      after_accepted after e =
-          e ∙ ap₂ (λ (x : List ℕ) (n : ℕ). x ++ drop n room) numbers_are numbers_size
+      -- the copy, as the part of the room that it fills
+      pub after_accepted : (part : List ℕ) → part ≡ b → put_mid 0 pattern_length room part ≡ pattern_after text room
+      after_accepted part e =
+          ap (λ (x : List ℕ). x ++ drop pattern_length room) (e ∙ numbers_are)
           ∙ sym (after_long ∙ ap (λ (o : Outcome Known). filled_by o room) known.1)
 
 pub ruleset pattern_kit = (
@@ -236,6 +238,6 @@ pub ruleset pattern_kit = (
   answer_refused,
   after_refused,
   answer_accepted,
-  numbers_fit,
+  room_part,
   after_accepted,
 )

@@ -4,11 +4,12 @@ use Rattle.text.specs.Walk.{Outcome, accepted, faulty}
 use Rattle.pattern_store.specs.Format.{Known, pattern_text}
 use Rattle.pattern_store.specs.Buffer.{bead_count, buffer_of}
 use Rattle.pattern_line.specs.Answers.{refusal_number}
-use Rattle.pattern_line.specs.declared.refusals.Fault.{Fault}
+use Rattle.pattern_line.specs.declared.refusals.Refusal.{Refusal}
+use Rattle.text.specs.declared.faults.Fault.{Fault}
 use Rattle.pattern_late.specs.Late.{late_faults}
 
 -- A text's answer in numbers: its bead count, or the refusal's number and line.
-abbrev pub text_said : Result ℕ Fault → Outcome ℕ
+abbrev pub text_said : Result ℕ (Fault Refusal) → Outcome ℕ
 text_said (Ok count) = accepted count
 text_said (Err f) = faulty (refusal_number f.refusal) f.line
 
@@ -24,6 +25,6 @@ abbrev pub beads_of : Outcome Known → Outcome ℕ
 beads_of (accepted k) = accepted (bead_count k.rows)
 beads_of (faulty k line) = faulty k line
 
-pub record TextRead (text : List ℕ) (r : Result ℕ Fault) (buffer : List ℕ) : Type 0 where
+pub record TextRead (text : List ℕ) (r : Result ℕ (Fault Refusal)) (buffer : List ℕ) : Type 0 where
   pub said : text_said r ≡ beads_of (pattern_text text)
   pub numbers : (k : Known) → pattern_text text ≡ accepted k → buffer ≡ buffer_of k

@@ -2,24 +2,27 @@
 #![tactic(auto)]
 
 ghost use Rattle.std.specs.Prelude.{◌≡◌};
+ghost use Rattle.pattern_line.specs.Answers.{refusal_number};
 ghost use Rattle.pattern.specs.Answer.{refused_with, pattern_answer, pattern_after};
 
 use crate::reading::read_text;
 use answer::Answer;
 use pattern_byte::byte_of;
+use pattern_line::refusals::Refusal;
+use text::faults::Fault;
 
 mod reading;
 
-// The refusal of a text, with the place in the line at fault.
+// The refusal of a text, with the place in the line at fault. Each reader has this function: the refusals and `byte_of` are its format's own.
 #[tactic(auto, using(crate::proofs::ReadingLaws::refuse_kit))]
-fn refuse(text: &[u8], number: u16, line: u16) -> Answer
-    ensures { result ≡ refused_with text.now number line }
+fn refuse(text: &[u8], fault: Fault<Refusal>) -> Answer
+    ensures { result ≡ refused_with text.now (refusal_number fault.refusal) fault.line }
 {
-    answer::refused_in(number, line, byte_of(text, number, line))
+    let number = u16::from(fault.refusal);
+    answer::refused_in(number, fault.line, byte_of(text, number, fault.line))
 }
 
 // Reads the text into a buffer of its own and copies that into the lent one where the text is accepted, so a refusal changes nothing.
-// `lists::copy` says what the numbers and the rest of the lent buffer are together, as the laws take it.
 #[tactic(auto, using(crate::proofs::ReadingLaws::pattern_kit))]
 pub fn read_pattern(text: &[u8], pattern: &mut [u16]) -> Answer
     ensures value { result ≡ pattern_answer text.now pattern.old }
@@ -30,9 +33,9 @@ pub fn read_pattern(text: &[u8], pattern: &mut [u16]) -> Answer
     }
     let mut buffer = [0u16; layout::PATTERN_LENGTH];
     match read_text(text, &mut buffer) {
-        Err(fault) => refuse(text, u16::from(fault.refusal), fault.line),
+        Err(fault) => refuse(text, fault),
         Ok(count) => {
-            lists::copy(&buffer, pattern);
+            pattern[..layout::PATTERN_LENGTH].copy_from_slice(&buffer);
             answer::accepted(count)
         }
     }

@@ -1,3 +1,4 @@
 pub mod Places
 pub mod OneNext
 pub mod Meaning
+pub mod Nested

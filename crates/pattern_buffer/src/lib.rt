@@ -5,12 +5,13 @@
 ghost use Rattle.std.specs.Prelude.{◌≡◌, ◌<◌, ◌≤◌, length, MatchOption, ℕ, List};
 ghost use Rattle.lists.specs.Places.{at};
 ghost use Rattle.layout.specs.Layout.{pattern_length, most_beads, most_states, most_labels, rule_at, states_at, accepting_at, next_at};
+ghost use Rattle.sets.specs.Sets.{all_below};
 ghost use Rattle.pattern_buffer.specs.Meaning.{labels_in, beads_in};
 ghost use Rattle.pattern_buffer.specs.Valid.{next_ok, nexts_ok};
 
 use std::marker::Model;
 
-// A lent buffer as long as a pattern's.
+// A lent buffer as long as a pattern's. Why it is not one type with `LogNumbers` stands there.
 #[derive(Drop)]
 pub struct PatternNumbers<'a> {
     numbers: &'a [u16],
@@ -76,7 +77,7 @@ impl<'a> PatternNumbers<'a> {
         requires { (j < most_beads) × (q < most_states) × (a < most_labels) }
         ensures { result ≡ at self.now (next_at j q a) }
     {
-        self.numbers[layout::NEXT_SETS + layout::SETS_A_BEAD * j + layout::SETS_A_STATE * q + a]
+        self.numbers[layout::next_sets_at(j, q) + a]
     }
 
     // A next set: right if state and label are there, 0 if not.
@@ -87,16 +88,32 @@ impl<'a> PatternNumbers<'a> {
         let states = self.states(j);
         let next = self.next(j, q, a);
         if q < usize::from(states) && a < self.labels() {
-            sets::within(next, states) && (self.rule(j) != 2 || sets::single(next))
+            sets::within(next, states) && (self.rule(j) != layout::ALL || sets::single(next))
         } else {
             next == 0
         }
     }
 
-    // All 2,048 next sets.
+    // The next sets of a state, one a label.
+    fn state_nexts_ok(&self, j: usize, q: usize) -> bool
+        requires { (j < most_beads) × (q < most_states) }
+        ensures { result ≡ all_below 16 (next_ok self.now j q) }
+    {
+        (0..layout::MOST_LABELS).all(|a| self.next_ok(j, q, a))
+    }
+
+    // Those of a bead.
+    fn bead_nexts_ok(&self, j: usize) -> bool
+        requires { j < most_beads }
+        ensures { result ≡ all_below 16 (λ q. all_below 16 (next_ok self.now j q)) }
+    {
+        (0..layout::MOST_STATES).all(|q| self.state_nexts_ok(j, q))
+    }
+
+    // All 2,048 next sets, bead by bead and state by state: no place is divided into its parts.
     pub fn nexts_ok(&self) -> bool
         ensures { result ≡ nexts_ok self.now }
     {
-        (0..2048).all(|i| self.next_ok(i / 256, i / 16 % 16, i % 16))
+        (0..layout::MOST_BEADS).all(|j| self.bead_nexts_ok(j))
     }
 }

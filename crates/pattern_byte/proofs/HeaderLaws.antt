@@ -17,6 +17,8 @@ use Rattle.line_places.specs.Place.{unprintable_place, ranked_at, line_at}
 use Rattle.line_places.proofs.PlaceLaws.{place_most}
 use Rattle.line_places.proofs.LineLaws.{unprintable_most}
 use Rattle.lists.specs.Leftmost.{leftmost}
+use Rattle.pattern_line.specs.Answers.{refusal_number}
+use Rattle.pattern_line.specs.declared.refusals.Refusal.TheVariants.{Header}
 use Rattle.pattern_places.specs.Place.{header_at, wrong_name}
 use Rattle.pattern_byte.specs.Byte.{place_in, pattern_byte}
 use Rattle.pattern_byte.specs.Header.{one_line_at, header_text_at}
@@ -112,8 +114,8 @@ module _ (header : List ℕ) (n : ℕ) (given : n ≡ length (first_part 10 head
     unfolding pattern_byte place_in
     read_so = refl
 
-    pub one_line : (b : ℕ) → b ≡ pattern_byte header 12 1 → b ≡ header_text_at header
-    one_line b e = e ∙ read_so ∙ sym asked
+    pub one_line : (k : ℕ) → k ≡ refusal_number Header → (b : ℕ) → b ≡ pattern_byte header k 1 → b ≡ header_text_at header
+    one_line k is b e = e ∙ ap (λ (m : ℕ). pattern_byte header m 1) is ∙ read_so ∙ sym asked
 
 pub ruleset header_kit = (next_fits, not_one, one_line)
 

@@ -8,11 +8,11 @@ use native.Mathlib.Omega.{arith}
 use borrow.Author.Tests.{lt-ltb, le-ltb, leb-true, ne_eqb}
 use lib.Dec.{eqb, leb, ltb}
 use lib.ListN.{length, take, drop}
-use Rattle.std.specs.Prelude.{Result, Ok, Err}
+use Rattle.std.specs.Prelude.{Option, None, unwrap_or, Result, Ok, Err}
 use Rattle.text.specs.Split.{split}
 use Rattle.text.specs.Lines.{TextLine, printable}
-use Rattle.line_places.specs.Place.{place_at, line_at, ranked_at, unprintable_place, found_line}
-use Rattle.line_places.proofs.PlaceLaws.{place_most}
+use Rattle.line_places.specs.Place.{as_place, place_at, line_at, ranked_at, unprintable_place, found_line}
+use Rattle.line_places.proofs.PlaceLaws.{place_out, place_most}
 use Rattle.line_places.proofs.LineLaws.{ranked_broken, whole_ordered, whole_inside, ranked_whole, unprintable_most}
 use Rattle.pattern_order.specs.Row.{Row}
 use Rattle.pattern_row.specs.Fields.{row_of}
@@ -22,48 +22,48 @@ use Rattle.pattern_byte.specs.Byte.{labels_named, rows_below, row_before, place_
 
 -- ---- by number
 
-module _ (text bytes : List ℕ) (k n p : ℕ) where
-  pub in_malformed : k ≡ 11 → (c : ℕ) → c ≡ labels_named text → p ≡ malformed_at c (split 32 bytes) → p ≡ place_in text k n bytes
+module _ (text bytes : List ℕ) (k n : ℕ) (p : Option ℕ) where
+  pub in_malformed : k ≡ 11 → (c : ℕ) → c ≡ labels_named text → p ≡ as_place (malformed_at c (split 32 bytes)) → p ≡ as_place (place_in text k n bytes)
   unfolding place_in
   in_malformed e c f g = g ∙ sym (rw (e, sym f) refl)
 
-  pub in_header : k ≡ 12 → p ≡ header_at (split 32 bytes) → p ≡ place_in text k n bytes
+  pub in_header : k ≡ 12 → p ≡ as_place (header_at (split 32 bytes)) → p ≡ as_place (place_in text k n bytes)
   unfolding place_in
   in_header e g = g ∙ sym (rw e refl)
 
-  pub in_order : k ≡ 13 → p ≡ cond (eqb n 1) 0 (disordered_at (row_before text n) (split 32 bytes)) → p ≡ place_in text k n bytes
+  pub in_order : k ≡ 13 → p ≡ as_place (cond (eqb n 1) 0 (disordered_at (row_before text n) (split 32 bytes))) → p ≡ as_place (place_in text k n bytes)
   unfolding place_in
   in_order e g = g ∙ sym (rw e refl)
 
-  pub in_rule : k ≡ 14 → p ≡ place_at (split 32 bytes) 1 → p ≡ place_in text k n bytes
+  pub in_rule : k ≡ 14 → p ≡ as_place (place_at (split 32 bytes) 1) → p ≡ as_place (place_in text k n bytes)
   unfolding place_in
   in_rule e g = g ∙ sym (rw e refl)
 
   pub in_straying : k ≡ 15 → (b c : ℕ) → b ≡ (row_of (split 32 bytes)).bead → c ≡ states_of (rows_below text) b
-      → p ≡ straying_at c (split 32 bytes) → p ≡ place_in text k n bytes
+      → p ≡ as_place (straying_at c (split 32 bytes)) → p ≡ as_place (place_in text k n bytes)
   unfolding place_in
-  in_straying e b c f g q = q ∙ ap (λ (m : ℕ). straying_at m (split 32 bytes)) (g ∙ ap (states_of (rows_below text)) f) ∙ sym (rw e refl)
+  in_straying e b c f g q = q ∙ ap (λ (m : ℕ). as_place (straying_at m (split 32 bytes))) (g ∙ ap (states_of (rows_below text)) f) ∙ sym (rw e refl)
 
-  pub in_ambiguous : k ≡ 16 → p ≡ ambiguous_at (split 32 bytes) → p ≡ place_in text k n bytes
+  pub in_ambiguous : k ≡ 16 → p ≡ as_place (ambiguous_at (split 32 bytes)) → p ≡ as_place (place_in text k n bytes)
   unfolding place_in
   in_ambiguous e g = g ∙ sym (rw e refl)
 
 pub in_none : (text bytes : List ℕ) (k n : ℕ) → (k ≡ 11 → ⊥) → (k ≡ 12 → ⊥) → (k ≡ 13 → ⊥) → (k ≡ 14 → ⊥) → (k ≡ 15 → ⊥) → (k ≡ 16 → ⊥)
-    → 0 ≡ place_in text k n bytes
-unfolding place_in
+    → None ≡ as_place (place_in text k n bytes)
+unfolding place_in as_place
 in_none text bytes k n a b c d e f = sym (rw (ne_eqb k 11 a, ne_eqb k 12 b, ne_eqb k 13 c, ne_eqb k 14 d, ne_eqb k 15 e, ne_eqb k 16 f) refl)
 
 pub ruleset in_kit = (in_malformed, in_header, in_order, in_rule, in_straying, in_ambiguous, in_none)
 
 -- ---- a line by its number
 
-module _ (text : List ℕ) (k n : ℕ) (r : Result (ℕ × ℕ) ℕ) (given : r ≡ found_line 240 text n) where
-  pub line_broken : (p : ℕ) → r ≡ Err p → p ≡ ranked_at 240 (line_at text n) (place_in text k n (line_at text n).bytes)
+module _ (text : List ℕ) (k n : ℕ) (r : Result (ℕ × ℕ) (Option ℕ)) (given : r ≡ found_line 240 text n) where
+  pub line_broken : (p : Option ℕ) → r ≡ Err p → p ≡ as_place (ranked_at 240 (line_at text n) (place_in text k n (line_at text n).bytes))
   line_broken p e = ranked_broken 240 text n r given p (place_in text k n (line_at text n).bytes) e
 
   module _ (x y : ℕ) (q : r ≡ Ok (x, y)) where
-    pub line_whole : (v : ℕ) → v ≡ place_in text k n (take (y - x) (drop x text))
-        → v ≡ ranked_at 240 (line_at text n) (place_in text k n (line_at text n).bytes)
+    pub line_whole : (v : Option ℕ) → v ≡ as_place (place_in text k n (take (y - x) (drop x text)))
+        → v ≡ as_place (ranked_at 240 (line_at text n) (place_in text k n (line_at text n).bytes))
     line_whole v e = ranked_whole 240 text n r given x y q (place_in text k n) v e
 
 pub ruleset line_kit = (line_broken, whole_ordered, whole_inside, line_whole)
@@ -118,12 +118,15 @@ module _ (text : List ℕ) (k n : ℕ) where
   unfolding pattern_byte
   byte_none h = sym (rw (lt-ltb k 11 h) refl)
 
-  module _ (v : ℕ) (given : v ≡ ranked_at 240 (line_at text n) (place_in text k n (line_at text n).bytes)) where
+  module _ (o : Option ℕ) (given : o ≡ as_place (ranked_at 240 (line_at text n) (place_in text k n (line_at text n).bytes))) (v : ℕ) (e : v ≡ unwrap_or o 0) where
+    value : v ≡ ranked_at 240 (line_at text n) (place_in text k n (line_at text n).bytes)
+    value = e ∙ ap (λ (p : Option ℕ). unwrap_or p 0) given ∙ place_out (ranked_at 240 (line_at text n) (place_in text k n (line_at text n).bytes))
+
     pub byte_ranked : 11 ≤ k → v ≡ pattern_byte text k n
     unfolding pattern_byte
-    byte_ranked h = given ∙ sym (rw (le-ltb k 11 h) refl)
+    byte_ranked h = value ∙ sym (rw (le-ltb k 11 h) refl)
 
     pub ranked_fits : v < 2 ^ 16
-    ranked_fits = let m = ranked_most in omega arith
+    ranked_fits = let f = value in let m = ranked_most in omega arith
 
 pub ruleset byte_kit = (byte_none, byte_ranked, ranked_fits)

@@ -11,67 +11,57 @@ use lib.Dec.{eqb, ltb}
 use lib.ListN.{length, get_or, take, drop, length-drop}
 use Rattle.lists.proofs.Parts.{rest_part}
 use Rattle.text.specs.Split.{split, first_part}
-use Rattle.text.proofs.SplitLaws.{split_empty, first_short}
+use Rattle.text.proofs.SplitLaws.{first_short}
 use Rattle.std.specs.Prelude.{Option, Some, None}
-use Rattle.fields.specs.Fields.{field_of}
 use Rattle.fields.proofs.FoundLaws.{found_none, found_ordered, found_inside, found_bytes}
-use Rattle.line_places.specs.Place.{lines_bytes, line_at}
+use Rattle.line_places.specs.Place.{as_place, lines_bytes, line_at}
 use Rattle.line_places.proofs.LineLaws.{line_bytes, bytes_none, bytes_step}
 use Rattle.pattern_row.specs.Fields.{row_of}
 use Rattle.pattern_store.specs.Next.{states_of}
 use Rattle.pattern_places.specs.Place.{disordered_at}
+use Rattle.row_places.specs.declared.order.Said.{Said}
+use Rattle.row_places.specs.Said.{rows_said}
+use Rattle.row_places.proofs.OrderLaws.{said_row}
 use Rattle.pattern_byte.specs.Byte.{labels_named, rows_below, row_before}
 
 -- ---- the labels that the header names
 
-module _ (text : List ℕ) (r : Option (ℕ × ℕ)) (given : r ≡ field_of 10 text 0) where
-  pub labels_missing : r ≡ None → 0 ≡ labels_named text
-  unfolding labels_named
-  labels_missing p =
-      let e = line_bytes text 1 ∙ found_none 10 text 0 r given p in
-      let k = ap (λ (m : List ℕ). length (split 32 m)) e ∙ ap length (split_empty 32) in
-      omega arith
+pub ruleset bytes_kit = (found_none, found_ordered, found_inside, found_bytes)
 
-  pub labels_there : (x y : ℕ) → r ≡ Some (x, y) → (n : ℕ) → n ≡ length (split 32 (take (y - x) (drop x text))) - 4 → n ≡ labels_named text
-  unfolding labels_named
-  labels_there x y p n e =
-      e ∙ ap (λ (m : List ℕ). length (split 32 m) - 4) (found_bytes 10 text 0 r given x y p ∙ sym (line_bytes text 1))
+pub labels_split : (text l : List ℕ) → l ≡ get_or (split 10 text) 0 [] → (m n : ℕ) → m ≡ length (split 32 l) → n ≡ m - 4 → n ≡ labels_named text
+unfolding labels_named
+labels_split text l g m n e f = f ∙ ap (λ (k : ℕ). k - 4) (e ∙ ap (λ (b : List ℕ). length (split 32 b)) (g ∙ sym (line_bytes text 1)))
 
-pub ruleset labels_kit = (found_ordered, found_inside, labels_missing, labels_there)
+pub ruleset labels_kit = (labels_split)
 
 -- ---- the line before
 
 module _ (text bytes : List ℕ) (n : ℕ) where
-  pub order_none : n ≡ 1 → 0 ≡ cond (eqb n 1) 0 (disordered_at (row_before text n) (split 32 bytes))
+  pub order_none : n ≡ 1 → None ≡ as_place (cond (eqb n 1) 0 (disordered_at (row_before text n) (split 32 bytes)))
+  unfolding as_place
   order_none e = sym (rw (eq-eqb n 1 e) refl)
 
-  pub order_first : (n ≡ 1 → ⊥) → n < 3 → (p : ℕ) → p ≡ disordered_at [] (split 32 bytes)
-      → p ≡ cond (eqb n 1) 0 (disordered_at (row_before text n) (split 32 bytes))
+  pub order_first : (n ≡ 1 → ⊥) → n < 3 → (p : Option ℕ) → p ≡ as_place (disordered_at [] (split 32 bytes))
+      → p ≡ as_place (cond (eqb n 1) 0 (disordered_at (row_before text n) (split 32 bytes)))
   unfolding row_before
   order_first d h p e = e ∙ sym (rw (ne_eqb n 1 d, lt-ltb n 3 h) refl)
 
-  module _ (d : n ≡ 1 → ⊥) (h : 3 ≤ n) (r : Option (ℕ × ℕ)) (given : r ≡ field_of 10 text (n - 2)) where
-    before_bytes : (line_at text (n - 1)).bytes ≡ get_or (split 10 text) (n - 2) []
+  module _ (d : n ≡ 1 → ⊥) (h : 3 ≤ n) (l : List ℕ) (given : l ≡ get_or (split 10 text) (n - 2) []) where
+    before_bytes : (line_at text (n - 1)).bytes ≡ l
     before_bytes =
         let e : n - 1 - 1 ≡ n - 2 = omega arith in
-        line_bytes text (n - 1) ∙ ap (λ (k : ℕ). get_or (split 10 text) k []) e
+        line_bytes text (n - 1) ∙ ap (λ (k : ℕ). get_or (split 10 text) k []) e ∙ sym given
 
-    after : (l : List ℕ) → l ≡ get_or (split 10 text) (n - 2) [] → (p : ℕ) → p ≡ disordered_at (row_of (split 32 l) ∷ []) (split 32 bytes)
-        → p ≡ cond (eqb n 1) 0 (disordered_at (row_before text n) (split 32 bytes))
+    pub order_next : (s : Said) → s.bead ≡ (row_of (split 32 l)).bead → s.state ≡ (row_of (split 32 l)).state
+        → (p : Option ℕ) → p ≡ as_place (disordered_at (rows_said (Some s)) (split 32 bytes))
+        → p ≡ as_place (cond (eqb n 1) 0 (disordered_at (row_before text n) (split 32 bytes)))
     unfolding row_before
-    after l f p e =
-        e ∙ ap (λ (m : List ℕ). disordered_at (row_of (split 32 m) ∷ []) (split 32 bytes)) (f ∙ sym before_bytes)
+    order_next s b k p e =
+        e ∙ ap as_place (said_row (split 32 l) s b k (split 32 bytes))
+        ∙ ap (λ (m : List ℕ). as_place (disordered_at (row_of (split 32 m) ∷ []) (split 32 bytes))) (sym before_bytes)
         ∙ sym (rw (ne_eqb n 1 d, le-ltb n 3 h) refl)
 
-    pub order_missing : r ≡ None → (p : ℕ) → p ≡ disordered_at (row_of (split 32 []) ∷ []) (split 32 bytes)
-        → p ≡ cond (eqb n 1) 0 (disordered_at (row_before text n) (split 32 bytes))
-    order_missing q p e = after [] (sym (found_none 10 text (n - 2) r given q)) p e
-
-    pub order_next : (x y : ℕ) → r ≡ Some (x, y) → (p : ℕ) → p ≡ disordered_at (row_of (split 32 (take (y - x) (drop x text))) ∷ []) (split 32 bytes)
-        → p ≡ cond (eqb n 1) 0 (disordered_at (row_before text n) (split 32 bytes))
-    order_next x y q p e = after (take (y - x) (drop x text)) (found_bytes 10 text (n - 2) r given x y q) p e
-
-pub ruleset order_kit = (found_ordered, found_inside, order_none, order_first, order_missing, order_next)
+pub ruleset order_kit = (order_none, order_first, order_next)
 
 -- ---- the states of a bead: the lines that speak of it
 

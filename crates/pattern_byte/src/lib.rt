@@ -19,5 +19,5 @@ pub fn byte_of(text: &[u8], number: u16, line: u16) -> u16
     if number < 11 {
         return 0;
     }
-    place::ranked_place(text, number, usize::from(line)) as u16
+    place::ranked_place(text, number, usize::from(line)).unwrap_or(0) as u16
 }

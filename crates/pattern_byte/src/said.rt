@@ -1,18 +1,23 @@
 // What the text says, as far as a place depends on more than its own line: the labels of the header, the line before, the states of a bead.
-ghost use Rattle.std.specs.Prelude.{◌≡◌, cond, ◌-◌, eqb, length};
+ghost use Rattle.std.specs.Prelude.{◌≡◌, cond, eqb, get_or, []};
 ghost use Rattle.text.specs.Split.{split};
+ghost use Rattle.line_places.specs.Place.{as_place};
 ghost use Rattle.pattern_store.specs.Next.{states_of};
 ghost use Rattle.pattern_places.specs.Place.{disordered_at};
 ghost use Rattle.pattern_byte.specs.Byte.{labels_named, rows_below, row_before};
 
 use fields::{field_count, find_field, first_length};
-use row_places::order::{bead_of, first_disordered, next_disordered};
+use row_places::order::{self, said_in};
 
-// How many labels a header of these bytes names.
-fn labels_of(line: &[u8]) -> usize
-    ensures { result ≡ length (split 32 line.now) - 4 }
+// The bytes of the line with this index; one that is not there counts as empty.
+#[tactic(auto, using(crate::proofs::SaidLaws::bytes_kit))]
+fn line_in(text: &[u8], index: usize) -> &[u8]
+    ensures { result.now ≡ get_or (split 10 text.now) index [] }
 {
-    field_count(line, b' ').saturating_sub(4)
+    match find_field(text, b'\n', index) {
+        None => b"",
+        Some((start, end)) => &text[start..end],
+    }
 }
 
 // How many labels the text's header names.
@@ -20,13 +25,11 @@ fn labels_of(line: &[u8]) -> usize
 pub fn labels_in(text: &[u8]) -> usize
     ensures { result ≡ labels_named text.now }
 {
-    match find_field(text, b'\n', 0) {
-        None => 0,
-        Some((start, end)) => labels_of(&text[start..end]),
-    }
+    field_count(line_in(text, 0), b' ').saturating_sub(4)
 }
 
-// How many states the bead has: as many as lines below the header speak of it. The place goes on by a line's length, so no `for` counts it.
+// How many states the bead has: as many as lines below the header speak of it. The place goes on by a line's length, so no `for` counts it; a
+// split at the newlines would give one part too many, behind the last.
 #[tactic(auto, using(crate::proofs::SaidLaws::states_kit))]
 pub fn states_in(text: &[u8], bead: u16) -> usize
     ensures { result ≡ states_of (rows_below text.now) bead }
@@ -36,9 +39,9 @@ pub fn states_in(text: &[u8], bead: u16) -> usize
     let mut count = 0;
     while at < text.len() {
         let n = first_length(&text[at..], b'\n');
-        let spoken = bead_of(&text[at..at + n]);
+        let said = said_in(&text[at..at + n]);
         at = at + n + 1;
-        if spoken == bead {
+        if said.bead == bead {
             count += 1;
         }
     }
@@ -47,17 +50,14 @@ pub fn states_in(text: &[u8], bead: u16) -> usize
 
 // 13 in the line with this number, whose bytes these are. In line 1 it says that nothing follows, and has no place.
 #[tactic(auto, using(crate::proofs::SaidLaws::order_kit))]
-pub fn disordered_place(text: &[u8], line: usize, bytes: &[u8]) -> usize
-    ensures { result ≡ cond (eqb line 1) 0 (disordered_at (row_before text.now line) (split 32 bytes.now)) }
+pub fn disordered_place(text: &[u8], line: usize, bytes: &[u8]) -> Option<usize>
+    ensures { result ≡ as_place (cond (eqb line 1) 0 (disordered_at (row_before text.now line) (split 32 bytes.now))) }
 {
     if line == 1 {
-        return 0;
-    }
-    if line < 3 {
-        return first_disordered(bytes);
-    }
-    match find_field(text, b'\n', line - 2) {
-        None => next_disordered(bytes, b""),
-        Some((start, end)) => next_disordered(bytes, &text[start..end]),
+        None
+    } else if line < 3 {
+        order::disordered_place(bytes, None)
+    } else {
+        order::disordered_place(bytes, Some(said_in(line_in(text, line - 2))))
     }
 }

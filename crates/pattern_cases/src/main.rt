@@ -6,22 +6,14 @@
 // has six numbers more than the format uses.
 #![tactic(auto)]
 
-use std::rt::Files;
-use std::{fs, io};
+use std::io;
 use trial::column;
 
 fn main(rt: HostRuntime) -> io::Result<()> {
-    try_file(&rt, "cases.txt")?;
-    try_file(&rt, "finals.txt")
-}
-
-fn try_file(rt: &(impl Files + Print + AllocGlobal), path: &str) -> io::Result<()> {
-    let file = fs::read_to_string(rt, path)?;
-    let mut tally = outcome::Tally::new(rt.alloc());
-    for line in file.lines() {
-        tally.add(try_case(rt, line)?)?;
+    for path in ["cases.txt", "finals.txt"] {
+        outcome::try_cases(&rt, path, |line| try_case(&rt, line))?;
     }
-    print!(rt; "{tally}")
+    Ok(())
 }
 
 // The answer's numbers, and what the call left in the buffer.

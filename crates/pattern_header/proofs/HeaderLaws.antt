@@ -1,22 +1,21 @@
 -- The header, as the code tests it: byte by byte, field by field, and test by test.
 -- Assumes nothing.
 use mathlib.Core.Path.{◌≡◌, refl, sym, ap, ◌∙◌}
-use mathlib.Core.Bool.{Bool, true, false, not, cond, ◌&&◌}
+use mathlib.Core.Bool.{Bool, true, false, not, cond, ◌&&◌, ◌||◌}
 use mathlib.Core.List.{List, [], ◌∷◌}
-use Prim.Native.Nat.{ℕ, ◌+◌, ◌-◌, ◌≤◌, ◌<◌}
+use Prim.Native.Nat.{ℕ, zero, suc, ◌+◌, ◌-◌, ◌≤◌, ◌<◌}
 use native.Mathlib.Omega.{arith}
-use borrow.Author.Tests.{not-true, not-false}
-use lib.Dec.{leb}
+use borrow.Author.Tests.{le-ltb, ltb-true, ltb-false}
+use lib.Dec.{leb, ltb}
 use lib.ListN.{length, get_or, take, drop, drop_of_length-le, length-drop}
-use lib.Seq.{drop-cons}
+use lib.Seq.{drop-cons, take_all}
 use native.Mathlib.Numerals.{add-one}
-use Rattle.pattern_line.specs.Line.{fields_of, field_at}
+use Rattle.pattern_line.specs.Line.{fields_of}
 use Rattle.pattern_header.specs.Header.{columns, same_fields, is_name, are_names, among, distinct, is_header, label_count}
 use Rattle.pattern_line.specs.Answers.{refusal}
 use Rattle.pattern_header.specs.Answers.{header_judged, header_said, header_numbers}
-use Rattle.pattern_line.proofs.Lists.{every_more, every_stop, every_end}
 use Rattle.fields.specs.Fields.{same_bytes}
-use Rattle.std.specs.List.{list_all, range_with_len}
+use Rattle.std.specs.List.{list_all, list_any, range_with_len}
 use Rattle.std.specs.Prelude.{Ok, Err}
 use Rattle.layout.specs.Layout.{most_labels}
 use Rattle.pattern_line.specs.declared.refusals.Refusal.TheVariants.{Header}
@@ -35,68 +34,55 @@ pub ruleset columns_kit = (columns_by_field)
 
 -- ---- the labels
 
-are_names_none : are_names [] ≡ true
-unfolding are_names
-are_names_none = refl
+module _ (fs : List (List ℕ)) where
+  here : (i : ℕ) → i < length fs → drop i fs ≡ get_or fs i [] ∷ drop (i + 1) fs
+  here i h = rw (add-one i) (drop-cons fs i [] h)
 
-are_names_first : (p : List ℕ) (ps : List (List ℕ)) → are_names (p ∷ ps) ≡ (is_name p && are_names ps)
-unfolding are_names
-are_names_first p ps = refl
+  over : (i : ℕ) → length fs ≤ i → drop i fs ≡ []
+  over i h = drop_of_length-le fs {i = i} h
 
--- n fields, of which those from i on are left
-module _ (line : List ℕ) (n i : ℕ) (count : n ≡ length (fields_of line)) (whole : Bool) where
-  module _ (inv : whole ≡ are_names (drop i (fields_of line))) where
-    pub names_more : i < n → (t : Bool) → t ≡ is_name (field_at line i) → not t ≡ false → whole ≡ are_names (drop (i + 1) (fields_of line))
-    names_more h t g e = every_more [] is_name are_names are_names_none are_names_first (fields_of line) i whole inv (omega arith) (sym g ∙ not-false t e)
+  -- n fields from i on, which are those left
+  pub named : (i n : ℕ) → n ≡ length fs - i → list_all (λ k. is_name (get_or fs k [])) (range_with_len i n) ≡ are_names (drop i fs)
+  unfolding are_names
+  named i zero e = sym (ap (list_all is_name) (over i (omega arith)))
+  named i (suc n) e =
+      ap (λ (t : Bool). is_name (get_or fs i []) && t) (named (i + 1) n (omega arith)) ∙ sym (ap (list_all is_name) (here i (omega arith)))
 
-    pub names_stop : i < n → (t : Bool) → t ≡ is_name (field_at line i) → not t ≡ true → false ≡ whole
-    names_stop h t g e = every_stop [] is_name are_names are_names_none are_names_first (fields_of line) i whole inv (omega arith) (sym g ∙ not-true t e)
+  pub differing : (i n : ℕ) → n ≡ length fs - i
+      → list_all (λ k. not (among (get_or fs k []) (drop (k + 1) fs))) (range_with_len i n) ≡ distinct (drop i fs)
+  unfolding distinct
+  differing i zero e = sym (ap distinct (over i (omega arith)))
+  differing i (suc n) e =
+      ap (λ (t : Bool). not (among (get_or fs i []) (drop (i + 1) fs)) && t) (differing (i + 1) n (omega arith)) ∙ sym (ap distinct (here i (omega arith)))
 
-    pub names_end : n ≤ i → true ≡ whole
-    names_end h = every_end [] is_name are_names are_names_none are_names_first (fields_of line) i whole inv (omega arith)
+  -- n fields from i on, whether others are left or not
+  pub standing : (p : List ℕ) (i n : ℕ) → i + n ≤ length fs → list_any (λ k. same_bytes p (get_or fs k [])) (range_with_len i n) ≡ among p (take n (drop i fs))
+  unfolding among
+  standing p i zero h = refl
+  standing p i (suc n) h =
+      ap (λ (t : Bool). same_bytes p (get_or fs i []) || t) (standing p (i + 1) n (omega arith)) ∙ sym (ap (λ (l : List (List ℕ)). among p (take (suc n) l)) (here i (omega arith)))
 
-  step : i < n → drop i (fields_of line) ≡ field_at line i ∷ drop (i + 1) (fields_of line)
-  step h = rw add-one (drop-cons (fields_of line) i [] (omega arith))
+  nothing : (p : List ℕ) (i : ℕ) → list_any (λ k. same_bytes p (get_or fs k [])) (range_with_len i 0) ≡ among p (take 0 (drop i fs))
+  unfolding among
+  nothing p i = refl
 
-  over : n ≤ i → drop i (fields_of line) ≡ []
-  over h = drop_of_length-le (fields_of line) {i = i} (omega arith)
+  pub standing_again : (p : List ℕ) (i n m : ℕ) → n ≡ length fs → m ≡ length fs → i < m
+      → list_any (λ k. same_bytes p (get_or fs k [])) (range_with_len (i + 1) (n - (i + 1))) ≡ among p (drop (i + 1) fs)
+  standing_again p i n m count same h =
+      let d = length-drop (i + 1) fs in
+      standing p (i + 1) (n - (i + 1)) (omega arith) ∙ ap (among p) (take_all (n - (i + 1)) (drop (i + 1) fs) (omega arith))
 
-  module _ (p : List ℕ) (inv : whole ≡ among p (drop i (fields_of line))) where
-    pub among_more : i < n → (t : Bool) → t ≡ same_bytes p (field_at line i) → t ≡ false → whole ≡ among p (drop (i + 1) (fields_of line))
-    unfolding among
-    among_more h t g e = inv ∙ ap (among p) (step h) ∙ rw (sym g ∙ e) refl
+  -- those from the fifth on that stand before another
+  pub standing_before : (p : List ℕ) (i : ℕ) → i < length fs → list_any (λ k. same_bytes p (get_or fs k [])) (range_with_len 4 (i - 4)) ≡ among p (take (i - 4) (drop 4 fs))
+  standing_before p i h = go (ltb i 4) refl
+    where
+      go : (t : Bool) → ltb i 4 ≡ t → list_any (λ k. same_bytes p (get_or fs k [])) (range_with_len 4 (i - 4)) ≡ among p (take (i - 4) (drop 4 fs))
+      go true e = let z : i - 4 ≡ 0 = let l = ltb-true i 4 e in omega arith in rw z (nothing p 4)
+      go false e = let l = ltb-false i 4 e in standing p 4 (i - 4) (omega arith)
 
-    pub among_found : i < n → (t : Bool) → t ≡ same_bytes p (field_at line i) → t ≡ true → true ≡ whole
-    unfolding among
-    among_found h t g e = sym (inv ∙ ap (among p) (step h) ∙ rw (sym g ∙ e) refl)
-
-    pub among_end : n ≤ i → false ≡ whole
-    unfolding among
-    among_end h = sym (inv ∙ ap (among p) (over h))
-
-  module _ (inv : whole ≡ distinct (drop i (fields_of line))) where
-    pub distinct_more : i < n → (t : Bool) → t ≡ among (field_at line i) (drop (i + 1) (fields_of line)) → t ≡ false
-        → whole ≡ distinct (drop (i + 1) (fields_of line))
-    unfolding distinct
-    distinct_more h t g e = inv ∙ ap distinct (step h) ∙ rw (sym g ∙ e) refl
-
-    pub distinct_stop : i < n → (t : Bool) → t ≡ among (field_at line i) (drop (i + 1) (fields_of line)) → t ≡ true → false ≡ whole
-    unfolding distinct
-    distinct_stop h t g e = sym (inv ∙ ap distinct (step h) ∙ rw (sym g ∙ e) refl)
-
-    pub distinct_end : n ≤ i → true ≡ whole
-    unfolding distinct
-    distinct_end h = sym (inv ∙ ap distinct (over h))
-
-pub among_none : (line p : List ℕ) (n i : ℕ) → n ≡ length (fields_of line) → n ≤ i → false ≡ among p (drop (i + 1) (fields_of line))
-unfolding among
-among_none line p n i count h = sym (ap (among p) (drop_of_length-le (fields_of line) {i = i + 1} (omega arith)))
-
-pub ruleset names_kit = (names_more, names_stop, names_end)
-
-pub ruleset among_kit = (among_more, among_found, among_end, among_none)
-
-pub ruleset distinct_kit = (distinct_more, distinct_stop, distinct_end)
+  pub none_again : (p : List ℕ) (i n : ℕ) → n ≡ length fs → n ≤ i → ltb i n ≡ among p (drop (i + 1) fs)
+  unfolding among
+  none_again p i n count h = le-ltb i n h ∙ sym (ap (among p) (over (i + 1) (omega arith)))
 
 -- ---- the whole header
 

@@ -48,47 +48,26 @@ fn has_columns(fields: &Fields<24>) -> bool
     (0..4).all(|i| fields.field(i) == column(i))
 }
 
-// Are all fields after those four names? This and the two below are `for`: their definitions go over the fields that are left, a chain over
-// indexes would give numbers.
-#[tactic(auto, using(crate::proofs::HeaderLaws::names_kit))]
+// Are all fields after those four names?
 fn are_names(fields: &Fields<24>) -> bool
     ensures { result ≡ are_names (drop 4 (fields_of fields.now.line.now)) }
 {
-    for i in 4..fields.len() {
-        if !is_name(fields.field(i)) {
-            return false;
-        }
-    }
-    true
+    (4..fields.len()).all(|i| is_name(fields.field(i)))
 }
 
 // Does the field stand among those after it?
-#[tactic(auto, using(crate::proofs::HeaderLaws::among_kit))]
 fn stands_again(fields: &Fields<24>, index: usize) -> bool
     ensures { result ≡ among (field_at fields.now.line.now index) (drop (index + 1) (fields_of fields.now.line.now)) }
 {
-    if index >= fields.len() {
-        return false;
-    }
-    for i in index + 1..fields.len() {
-        if fields.field(index) == fields.field(i) {
-            return true;
-        }
-    }
-    false
+    index < fields.len()
+        && (index + 1..fields.len()).any(|i| fields.field(index) == fields.field(i))
 }
 
 // Are the fields after the first four distinct?
-#[tactic(auto, using(crate::proofs::HeaderLaws::distinct_kit))]
 fn are_distinct(fields: &Fields<24>) -> bool
     ensures { result ≡ distinct (drop 4 (fields_of fields.now.line.now)) }
 {
-    for i in 4..fields.len() {
-        if stands_again(fields, i) {
-            return false;
-        }
-    }
-    true
+    (4..fields.len()).all(|i| !stands_again(fields, i))
 }
 
 // Is the line a header?

@@ -1,21 +1,22 @@
 -- The turns of the loops that look for 15 and 16 over a buffer.
 -- Assumes nothing.
 use mathlib.Core.Path.{◌≡◌, refl, sym, ap, ◌∙◌}
-use mathlib.Core.Bool.{Bool, true, false, not, ◌&&◌}
-use mathlib.Core.List.{List, [], ◌∷◌}
+use mathlib.Core.Bool.{Bool, true, false, not}
+use mathlib.Core.List.{List}
 use Prim.Native.Nat.{ℕ, suc, ◌+◌, ◌-◌, ◌*◌, ◌/◌, ◌%◌, ◌≤◌, ◌<◌}
 use native.Mathlib.Omega.{arith}
 use borrow.Author.Tests.{eq-eqb, ne_eqb, lt-ltb, le-ltb, not-true, not-false}
 use lib.ListN.{length, get_or, take, drop}
 use Rattle.std.specs.Prelude.{Result, Ok, Err}
-use Rattle.std.specs.List.{list_all}
 use Rattle.text.proofs.WalkLaws.{walk_nil, walk_cons}
-use Rattle.sets.specs.Sets.{within, single, cons_if}
+use Rattle.sets.specs.Sets.{cons_if}
 use Rattle.text.specs.Walk.{Judged, refused, passed, Outcome, accepted, faulty, proceed, walk}
 use Rattle.pattern_store.specs.Next.{all_within, all_single}
 use Rattle.pattern_line.specs.Answers.{refusal_number}
 use Rattle.pattern_late.specs.Late.{Bounded, sets_at, judge_slot, has_state, slots_from, late_faults, slot_said}
 use Rattle.pattern_line.specs.declared.refusals.Refusal.{Refusal}
+use Rattle.text.specs.Faults.{in_line}
+use Rattle.text.specs.declared.faults.Fault.{Fault}
 
 -- ---- a slot
 
@@ -44,13 +45,13 @@ module _ (b : List ℕ) (f : Bounded b) (i : ℕ) (h : i < 128) where
         slot_some n = sym (rw (sym in_states ∙ not-false t e, ne_eqb (get_or b (2 + i / 16) 0) 2 n) refl)
 
         module _ (all : get_or b (2 + i / 16) 0 ≡ 2) (u : Bool) (k : u ≡ all_single (take (26 + 16 * i + w - (26 + 16 * i)) (drop (26 + 16 * i) b))) where
-          pub slot_fine : u ≡ true → passed tt ≡ judge_slot b tt 0 i
+          pub slot_fine : not u ≡ false → passed tt ≡ judge_slot b tt 0 i
           unfolding judge_slot
-          slot_fine m = sym (rw (sym in_states ∙ not-false t e, eq-eqb (get_or b (2 + i / 16) 0) 2 all, sym (k ∙ ap all_single lent) ∙ m) refl)
+          slot_fine m = sym (rw (sym in_states ∙ not-false t e, eq-eqb (get_or b (2 + i / 16) 0) 2 all, sym (k ∙ ap all_single lent) ∙ not-false u m) refl)
 
-          pub slot_ambiguous : u ≡ false → refused 16 ≡ judge_slot b tt 0 i
+          pub slot_ambiguous : not u ≡ true → refused 16 ≡ judge_slot b tt 0 i
           unfolding judge_slot
-          slot_ambiguous m = sym (rw (sym in_states ∙ not-false t e, eq-eqb (get_or b (2 + i / 16) 0) 2 all, sym (k ∙ ap all_single lent) ∙ m) refl)
+          slot_ambiguous m = sym (rw (sym in_states ∙ not-false t e, eq-eqb (get_or b (2 + i / 16) 0) 2 all, sym (k ∙ ap all_single lent) ∙ not-true u m) refl)
 
 pub ruleset slot_kit = (states_bound, sets_end, slot_strays, slot_some, slot_fine, slot_ambiguous)
 
@@ -87,12 +88,24 @@ module _ (b : List ℕ) (line i : ℕ) (inv : late_faults b ≡ late_from b line
           ∙ walk_cons (judge_slot b) tt line i (slots_from b (128 - (i + 1)) (i + 1))
           ∙ ap (λ (j : Judged (Unit {0})). proceed line j (λ t. walk (judge_slot b) t (line + 1) (slots_from b (128 - (i + 1)) (i + 1)))) (sym said)
 
-      pub late_fault : (r : Refusal) → a ≡ Err r → faulty (refusal_number r) line ≡ late_faults b
-      late_fault r p = sym (here ∙ ap (λ (x : Result (Unit {0}) Refusal). proceed line (slot_said x) (λ t. walk (judge_slot b) t (line + 1) (slots_from b (128 - (i + 1)) (i + 1)))) p)
+      module _ (c : Result (Unit {0}) (Fault Refusal)) (lined : c ≡ in_line line a) where
+        pub late_fault : (f : Fault Refusal) → c ≡ Err f → faulty (refusal_number f.refusal) f.line ≡ late_faults b
+        late_fault f p = sym (here ∙ go a (sym lined ∙ p))
+          where
+            go : (x : Result (Unit {0}) Refusal) → in_line line x ≡ Err f
+                → proceed line (slot_said x) (λ t. walk (judge_slot b) t (line + 1) (slots_from b (128 - (i + 1)) (i + 1))) ≡ faulty (refusal_number f.refusal) f.line
+            go (Ok u) q = let z : ◌≡◌ {A = ℕ} 0 1 = cc in absurd (omega arith)
+            go (Err r) q = let z : record { refusal = r; line = line } ≡ f = cc in rw (sym z) refl
 
-      pub late_pass : (u : Unit {0}) → a ≡ Ok u → late_faults b ≡ late_from b (line + 1) (i + 1)
-      unfolding late_from
-      late_pass u p = here ∙ ap (λ (x : Result (Unit {0}) Refusal). proceed line (slot_said x) (λ t. walk (judge_slot b) t (line + 1) (slots_from b (128 - (i + 1)) (i + 1)))) p
+        pub late_pass : (u : Unit {0}) → c ≡ Ok u → late_faults b ≡ late_from b (line + 1) (i + 1)
+        unfolding late_from
+        late_pass u p = here ∙ go a (sym lined ∙ p)
+          where
+            go : (x : Result (Unit {0}) Refusal) → in_line line x ≡ Ok u
+                → proceed line (slot_said x) (λ t. walk (judge_slot b) t (line + 1) (slots_from b (128 - (i + 1)) (i + 1)))
+                ≡ walk (judge_slot b) tt (line + 1) (slots_from b (128 - (i + 1)) (i + 1))
+            go (Ok v) q = refl
+            go (Err r) q = let z : ◌≡◌ {A = ℕ} 0 1 = cc in absurd (omega arith)
 
 pub state_place : (b : List ℕ) (i : ℕ) → Bounded b → i < 128 → 10 + i / 16 < length b
 state_place b i f h = let s = f.size in omega arith

@@ -7,7 +7,7 @@ use Rattle.layout.specs.Layout.{rule_at, states_at, pattern_length}
 use Rattle.pattern_store.specs.Next.{all_within, all_single}
 use Rattle.pattern_line.specs.Answers.{refusal_number}
 use Rattle.pattern_line.specs.declared.refusals.Refusal.{Refusal}
-use Rattle.pattern_line.specs.declared.refusals.Fault.{Fault}
+use Rattle.text.specs.declared.faults.Fault.{Fault}
 
 -- A buffer of the right length with at most 16 labels, and at most 16 states a bead.
 pub record Bounded (b : List ℕ) : Type 0 where
@@ -45,6 +45,6 @@ abbrev pub slot_said : Result (Unit {0}) Refusal → Judged (Unit {0})
 slot_said (Ok u) = passed tt
 slot_said (Err r) = refused (refusal_number r)
 
-abbrev pub late_said : Result (Unit {0}) Fault → Outcome (Unit {0})
+abbrev pub late_said : Result (Unit {0}) (Fault Refusal) → Outcome (Unit {0})
 late_said (Ok u) = accepted tt
 late_said (Err f) = faulty (refusal_number f.refusal) f.line

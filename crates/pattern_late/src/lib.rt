@@ -6,7 +6,8 @@ ghost use Rattle.std.specs.Prelude.{◌≡◌, ◌≤◌, ◌<◌};
 ghost use Rattle.pattern_store.specs.Next.{all_within, all_single};
 ghost use Rattle.pattern_late.specs.Late.{Bounded, slot_said, judge_slot, late_said, late_faults};
 
-use pattern_line::refusals::{Fault, Refusal};
+use pattern_line::refusals::Refusal;
+use text::faults::{Fault, in_line};
 
 // Has every set only states below n?
 #[tactic(auto, unfolding(pattern_store::specs::Next::all_within))]
@@ -31,37 +32,32 @@ fn judge_slot(buffer: &[u16], slot: usize) -> Result<(), Refusal>
     requires { Bounded buffer.now × (slot < 128) }
     ensures { slot_said result ≡ judge_slot buffer.now tt 0 slot }
 {
-    let j = slot / 16;
+    let j = slot / layout::MOST_STATES;
     let from = layout::NEXT_SETS + layout::SETS_A_STATE * slot;
-    let to = from + usize::from(buffer[0]);
-    let sets = &buffer[from..to];
+    let sets = &buffer[from..from + usize::from(buffer[0])];
     if !all_within(sets, buffer[layout::STATE_COUNTS + j]) {
-        return Err(Refusal::NextState);
+        Err(Refusal::NextState)
+    } else if buffer[layout::RULES + j] == layout::ALL && !all_single(sets) {
+        Err(Refusal::NextCount)
+    } else {
+        Ok(())
     }
-    if buffer[layout::RULES + j] != 2 {
-        return Ok(());
-    }
-    if all_single(sets) {
-        return Ok(());
-    }
-    Err(Refusal::NextCount)
 }
 
-// The refusal of the first slot at fault, with its line; the first row stands in line 2.
+// The refusal of the first slot at fault, with its line; the first row stands in line 2. It takes a slice, since its caller may lend more
+// than a pattern's numbers. By slots, as the definition: the line is counted over the states of all beads.
 #[tactic(auto, using(crate::proofs::LateLaws::late_kit))]
-pub fn find_late(buffer: &[u16]) -> Result<(), Fault>
+pub fn find_late(buffer: &[u16]) -> Result<(), Fault<Refusal>>
     requires { Bounded buffer.now }
     ensures { late_said result ≡ late_faults buffer.now }
 {
     let mut line = 2;
-    for slot in 0..128 {
-        if slot % 16 >= usize::from(buffer[layout::STATE_COUNTS + slot / 16]) {
-            continue;
+    for slot in 0..layout::ALL_STATES {
+        let (j, q) = (slot / layout::MOST_STATES, slot % layout::MOST_STATES);
+        if q < usize::from(buffer[layout::STATE_COUNTS + j]) {
+            in_line(judge_slot(buffer, slot), line)?;
+            line += 1;
         }
-        if let Err(refusal) = judge_slot(buffer, slot) {
-            return Err(Fault { refusal, line });
-        }
-        line += 1;
     }
     Ok(())
 }

@@ -16,12 +16,12 @@ use Rattle.text.specs.Split.{joined, line_from}
 use Rattle.writing.proofs.PutLaws.{joined_listed, kit}
 use Rattle.pattern_order.specs.Row.{Row}
 use Rattle.lists.specs.Places.{at}
-use Rattle.layout.specs.Layout.{pattern_length}
+use Rattle.layout.specs.Layout.{pattern_length, states_at}
 use Rattle.pattern_buffer.specs.Meaning.{beads_in}
 use Rattle.pattern_buffer.specs.Valid.{is_pattern}
 use Rattle.pattern_buffer.proofs.Places.{passes_out, bead_there}
 use Rattle.pattern_texts.specs.Spelled.{row_in, rule_word, fields_of}
-use Rattle.pattern_layout.specs.Parts.{row_start, row_end, StateOf}
+use Rattle.pattern_layout.specs.Parts.{row_start, row_end}
 
 -- ---- the rule
 
@@ -60,14 +60,14 @@ sets_there b f n h =
     table_is (λ a. at b (f + a)) n (take n (drop f b)) (length-take-le n (drop f b) (let d = length-drop f b in omega arith))
     (λ a k. get_or-take n (drop f b) a 0 k ∙ get_or-drop f b a 0)
 
-pub row_is : (b : List ℕ) (j q : ℕ) → StateOf b j q
+pub row_is : (b : List ℕ) (j q : ℕ) → T (is_pattern b) → j < beads_in b → q < at b (states_at j)
     → line_from (fields_of (row_in b j q))
     ≡ row_start (j + 1) (get_or b (2 + j) 0) q
     ++ row_end (cond (member q (get_or b (18 + j) 0)) 1 0)
     (take (26 + 256 * j + 16 * q + get_or b 0 0 - (26 + 256 * j + 16 * q)) (drop (26 + 256 * j + 16 * q) b))
-row_is b j q s =
+row_is b j q t bead state =
     let f : ℕ = 26 + 256 * j + 16 * q in
-    let inside : f + get_or b 0 0 ≤ length b = omega (arith, long b s.pattern_passes, few_labels b s.pattern_passes, few_beads b s.pattern_passes, few_states b s.pattern_passes j s.bead, s.bead, s.state) in
+    let inside : f + get_or b 0 0 ≤ length b = omega (arith, long b t, few_labels b t, few_beads b t, few_states b t j bead, bead, state) in
     let e : f + get_or b 0 0 - f ≡ get_or b 0 0 = omega arith in
     sym (line_parts (row_in b j q))
     ∙ ap (λ (ns : List ℕ). row_start (j + 1) (get_or b (2 + j) 0) q ++ row_end (row_in b j q).accepting ns)

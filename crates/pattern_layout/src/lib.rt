@@ -2,14 +2,15 @@
 // As in `writing`, no function asks for room.
 #![tactic(auto)]
 
-ghost use Rattle.std.specs.Prelude.{◌+◌, ◌^◌, ◌≤◌, ◌<◌, ◌++◌, ◌∷◌, [], T, length, get_or};
+ghost use Rattle.std.specs.Prelude.{◌+◌, ◌^◌, ◌≤◌, ◌<◌, ◌++◌, ◌∷◌, [], T, length};
 ghost use Rattle.text.specs.Split.{line_from};
 ghost use Rattle.writing.specs.Put.{Adds};
 ghost use Rattle.layout.specs.Layout.{states_at};
+ghost use Rattle.lists.specs.Places.{at};
 ghost use Rattle.pattern_buffer.specs.Meaning.{beads_in};
 ghost use Rattle.pattern_buffer.specs.Valid.{is_pattern};
 ghost use Rattle.pattern_texts.specs.Spelled.{row_in, rows_of_bead, rows_of, rule_word, fields_of, row_lines};
-ghost use Rattle.pattern_layout.specs.Parts.{row_start, row_end, StateOf};
+ghost use Rattle.pattern_layout.specs.Parts.{row_start, row_end};
 
 use writing::Output;
 
@@ -20,14 +21,14 @@ fn put_rule(output: &mut Output, rule: u16)
     ensures put { Adds (rule_word rule ++ (32 ∷ [])) output.old output.new }
     ensures upper_bound { output.new.at ≤ output.old.at + 5 }
 {
-    if rule == 2 {
+    if rule == layout::ALL {
         output.put_bytes(b"ALL ");
     } else {
         output.put_bytes(b"SOME ");
     }
 }
 
-// Bead, rule and state, each with a space behind it.
+// Bead, rule and state, each with a space behind it. The rule is the buffer's number.
 #[tactic(auto, using(writing::proofs::PutLaws::kit))]
 fn put_start(output: &mut Output, bead: u16, rule: u16, state: u16)
     requires { output.old.at + 17 < 2 ^ 64 }
@@ -52,47 +53,56 @@ fn put_end(output: &mut Output, accepting: u16, sets: &[u16])
     output.put_byte(b'\n');
 }
 
-// The line of the state q of the bead at place j.
-#[tactic(auto, using(crate::proofs::LineLaws::place_kit))]
-fn put_row(output: &mut Output, pattern: &[u16], j: u16, q: u16)
-    requires state_of { StateOf pattern.now j q }
-    requires at_bound { output.old.at + 119 < 2 ^ 64 }
-    ensures put { Adds (line_from (fields_of (row_in pattern.now j q))) output.old output.new }
-    ensures upper_bound { output.new.at ≤ output.old.at + 119 }
-{
-    let bead = usize::from(j);
-    let accepting = sets::member(pattern[layout::FINAL_SETS + bead], q);
-    let from = layout::NEXT_SETS
-        + layout::SETS_A_BEAD * bead
-        + layout::SETS_A_STATE * usize::from(q);
-    let labels = usize::from(pattern[0]);
-    put_start(output, j + 1, pattern[layout::RULES + bead], q);
-    put_end(output, u16::from(accepting), &pattern[from..from + labels]);
+// A pattern buffer that passed its test.
+#[derive(Clone, Copy)]
+pub struct TestedPattern<'a> {
+    pub numbers: &'a [u16],
+    ghost pattern_passes: { T (is_pattern numbers.now) },
 }
 
-// The lines of the bead at place j, states upwards.
-#[tactic(auto, using(crate::proofs::RowLaws::bead_kit))]
-fn put_bead(output: &mut Output, pattern: &[u16], j: u16)
-    requires pattern_passes { T (is_pattern pattern.now) }
-    requires bead { j < beads_in pattern.now }
-    requires at_bound { output.old.at + 1904 < 2 ^ 64 }
-    ensures put { Adds (row_lines (rows_of_bead pattern.now j (get_or pattern.now (states_at j) 0))) output.old output.new }
-    ensures upper_bound { output.new.at ≤ output.old.at + 1904 }
-{
-    let states = pattern[layout::STATE_COUNTS + usize::from(j)];
-    for q in 0..states {
-        put_row(output, pattern, j, q);
+impl<'a> TestedPattern<'a> {
+    // The line of the state q of the bead at place j.
+    #[tactic(auto, using(crate::proofs::LineLaws::place_kit))]
+    fn put_row(self, output: &mut Output, j: u16, q: u16)
+        requires bead { j < beads_in self.numbers.now }
+        requires state { q < at self.numbers.now (states_at j) }
+        requires at_bound { output.old.at + 119 < 2 ^ 64 }
+        ensures put { Adds (line_from (fields_of (row_in self.entry.numbers.now j q))) output.old output.new }
+        ensures upper_bound { output.new.at ≤ output.old.at + 119 }
+    {
+        let bead = usize::from(j);
+        let accepting = sets::member(self.numbers[layout::FINAL_SETS + bead], q);
+        let from = layout::next_sets_at(bead, usize::from(q));
+        let labels = usize::from(self.numbers[0]);
+        put_start(output, j + 1, self.numbers[layout::RULES + bead], q);
+        put_end(
+            output,
+            u16::from(accepting),
+            &self.numbers[from..from + labels],
+        );
     }
-}
 
-// The lines of all beads, upwards.
-#[tactic(auto, using(crate::proofs::RowLaws::beads_kit))]
-pub fn put_beads(output: &mut Output, pattern: &[u16])
-    requires pattern_passes { T (is_pattern pattern.now) }
-    requires at_bound { output.old.at + 15232 < 2 ^ 64 }
-    ensures { Adds (row_lines (rows_of pattern.now)) output.old output.new }
-{
-    for j in 0..pattern[1] {
-        put_bead(output, pattern, j);
+    // The lines of the bead at place j, states upwards.
+    #[tactic(auto, using(crate::proofs::RowLaws::bead_kit))]
+    fn put_bead(self, output: &mut Output, j: u16)
+        requires bead { j < beads_in self.numbers.now }
+        requires at_bound { output.old.at + 1904 < 2 ^ 64 }
+        ensures put { Adds (row_lines (rows_of_bead self.entry.numbers.now j (at self.entry.numbers.now (states_at j)))) output.old output.new }
+        ensures upper_bound { output.new.at ≤ output.old.at + 1904 }
+    {
+        for q in 0..self.numbers[layout::STATE_COUNTS + usize::from(j)] {
+            self.put_row(output, j, q);
+        }
+    }
+
+    // The lines of all beads, upwards.
+    #[tactic(auto, using(crate::proofs::RowLaws::beads_kit))]
+    pub fn put_beads(self, output: &mut Output)
+        requires { output.old.at + 15232 < 2 ^ 64 }
+        ensures { Adds (row_lines (rows_of self.entry.numbers.now)) output.old output.new }
+    {
+        for j in 0..self.numbers[1] {
+            self.put_bead(output, j);
+        }
     }
 }

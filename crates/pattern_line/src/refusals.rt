@@ -1,4 +1,4 @@
-// What a pattern's text can be refused for.
+// What a pattern's text can be refused for. With the line at fault it is a `text::faults::Fault<Refusal>`.
 ghost use Rattle.std.specs.Prelude.{◌≡◌};
 ghost use Rattle.pattern_line.specs.Answers.{refusal_number};
 
@@ -35,11 +35,4 @@ impl From<Refusal> for u16 {
             Refusal::NextCount => 16,
         }
     }
-}
-
-// What a text is refused for, and in which line, from 1 on; 0 where it is no line's fault.
-#[derive(Clone, Copy, Debug, PartialEq, Eq)]
-pub struct Fault {
-    pub refusal: Refusal,
-    pub line: u16,
 }

@@ -3,23 +3,18 @@ ghost use Rattle.std.specs.Prelude.{◌≡◌, [], ◌<◌, length, get_or};
 ghost use Rattle.text.specs.Split.{split};
 ghost use Rattle.pattern_header.specs.Header.{among};
 ghost use Rattle.pattern_places.specs.Place.{labels_before, wrong_name, header_at};
+ghost use Rattle.line_places.specs.Place.{as_place};
 
 use fields::Fields;
 use line_places::place_where;
 use pattern_header::{column, is_name};
 
 // Does the field stand among the labels before it?
-#[tactic(auto, using(crate::proofs::HeaderLaws::before_kit))]
 fn stands_before(fields: &Fields<24>, index: usize) -> bool
     requires { index < length (split 32 fields.now.line.now) }
     ensures { result ≡ among (get_or (split 32 fields.now.line.now) index []) (labels_before (split 32 fields.now.line.now) index) }
 {
-    for i in 4..index {
-        if fields.field(index) == fields.field(i) {
-            return true;
-        }
-    }
-    false
+    (4..index).any(|i| fields.field(index) == fields.field(i))
 }
 
 // Is the name with this index wrong?
@@ -29,14 +24,17 @@ fn wrong_name(fields: &Fields<24>, index: usize) -> bool
     ensures { result ≡ wrong_name (split 32 fields.now.line.now) index }
 {
     if index < 4 {
-        return fields.field(index) != column(index);
+        fields.field(index) != column(index)
+    } else {
+        index >= 4 + layout::MOST_LABELS
+            || !is_name(fields.field(index))
+            || stands_before(fields, index)
     }
-    index > 19 || !is_name(fields.field(index)) || stands_before(fields, index)
 }
 
 // The leftmost name that is wrong.
-pub fn header_place(line: &[u8]) -> usize
-    ensures { result ≡ header_at (split 32 line.now) }
+pub fn header_place(line: &[u8]) -> Option<usize>
+    ensures { result ≡ as_place (header_at (split 32 line.now)) }
 {
     let fields: Fields<24> = Fields::split(line);
     place_where(&fields, |i| wrong_name(&fields, i))

@@ -2,6 +2,7 @@
 ghost use Rattle.std.specs.Prelude.{◌≡◌};
 ghost use Rattle.text.specs.Split.{split};
 ghost use Rattle.pattern_places.specs.Place.{no_number, malformed_at};
+ghost use Rattle.line_places.specs.Place.{as_place};
 
 use fields::Fields;
 use line_places::place_where;
@@ -17,12 +18,12 @@ fn no_number(fields: &Fields<24>, index: usize) -> bool
 
 // The leftmost field that is no number, where the header names so many labels.
 #[tactic(auto, using(crate::proofs::ShapeLaws::malformed_kit))]
-pub fn malformed_place(line: &[u8], labels: usize) -> usize
-    ensures { result ≡ malformed_at labels (split 32 line.now) }
+pub fn malformed_place(line: &[u8], labels: usize) -> Option<usize>
+    ensures { result ≡ as_place (malformed_at labels (split 32 line.now)) }
 {
     let fields: Fields<24> = Fields::split(line);
     match fields.len().checked_sub(4) {
         Some(count) if count == labels => place_where(&fields, |i| no_number(&fields, i)),
-        _ => 0,
+        _ => None,
     }
 }

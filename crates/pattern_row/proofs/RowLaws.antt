@@ -8,7 +8,7 @@ use native.Mathlib.Numerals.{add-one}
 use native.Mathlib.Omega.{arith}
 use borrow.Author.Tests.{ltb-true, ltb-false, eq-eqb, ne_eqb, not-true, not-false}
 use lib.Dec.{eqb, ltb}
-use lib.ListN.{length, get_or, take, drop, set, length-drop}
+use lib.ListN.{length, get_or, take, drop, set, replicate, length-drop}
 use lib.Seq.{take_all, drop-nil, get_or-drop}
 use Rattle.numbers.proofs.ListedLaws.{are_numbers_none, are_numbers_first}
 use Rattle.numbers.specs.Numbers.{number_of, is_number, value_of}
@@ -32,9 +32,6 @@ use Rattle.lists.proofs.Tables.{part, part_none, part_more, part_all}
 module _ (f : List ℕ) (x : Option ℕ) (given : x ≡ number_of f) where
   not_number : x ≡ None → false ≡ is_number f
   not_number e = ap is_some (sym e ∙ given)
-
-  value_none : x ≡ None → 0 ≡ value_of f
-  value_none e = ap (λ (o : Option ℕ). unwrap_or o 0) (sym e ∙ given)
 
   is_number_lem : (v : ℕ) → x ≡ Some v → true ≡ is_number f
   is_number_lem v e = ap is_some (sym e ∙ given)
@@ -106,59 +103,56 @@ all_passed [] (suc n) i h = ap are_numbers (drop-nil i) ∙ are_numbers_none
 all_passed (f ∷ fs) (suc n) zero h = absurd (omega arith)
 all_passed (f ∷ fs) (suc n) (suc i) h = all_passed fs n i (omega arith)
 
-pub sets_none : (line l : List ℕ) → l ≡ part (set_at line) 0 l
-sets_none line l = part_none (set_at line) l
+-- an array of 16 zeros, as the loop begins
+abbrev pub zeros : List ℕ
+zeros = replicate 16 0
+
+pub sets_none : (line : List ℕ) → zeros ≡ part (set_at line) 0 zeros
+sets_none line = part_none (set_at line) zeros
 
 module _ (line : List ℕ) (a : ℕ) (h : a < 16) (x : Option ℕ) (given : x ≡ number_of (field_at line (4 + a))) where
-  module _ (l next : List ℕ) (inv : next ≡ part (set_at line) a l) (size : length l ≡ 16) where
-    put : (v : ℕ) → v ≡ set_at line a → set next a v ≡ part (set_at line) (a + 1) l
-    put v g = ap₂ (λ (y : List ℕ) (z : ℕ). set y a z) inv g ∙ part_more (set_at line) a l (omega arith)
+  pub set_read : (next : List ℕ) → next ≡ part (set_at line) a zeros → (v : ℕ) → v ≡ unwrap_or x 0 → set next a v ≡ part (set_at line) (a + 1) zeros
+  set_read next inv v e =
+      ap₂ (λ (y : List ℕ) (z : ℕ). set y a z) inv (e ∙ ap (λ (o : Option ℕ). unwrap_or o 0) given) ∙ part_more (set_at line) a zeros (omega arith)
 
-    pub set_number : (v : ℕ) → x ≡ Some v → (after : List ℕ) → after ≡ set next a v → after ≡ part (set_at line) (a + 1) l
-    set_number v e after q = q ∙ put v (value_some (field_at line (4 + a)) x given v e)
+  module _ (whole numbers : Bool) (inv : whole ≡ (numbers && are_numbers (drop a (set_fields line)))) (none : Bool) (told : is_some x ≡ not none) where
+    some_is : is_number (field_at line (4 + a)) ≡ not none
+    some_is = sym (ap is_some given) ∙ told
 
-    pub set_lacked : x ≡ None → (after : List ℕ) → after ≡ set next a 0 → after ≡ part (set_at line) (a + 1) l
-    set_lacked e after q = q ∙ put 0 (value_none (field_at line (4 + a)) x given e)
-
-  module _ (whole numbers : Bool) (inv : whole ≡ (numbers && are_numbers (drop a (set_fields line)))) where
-    behind : a < length (drop 4 (fields_of line)) → (t : Bool) → t ≡ is_number (field_at line (4 + a))
-        → are_numbers (drop a (set_fields line)) ≡ (t && are_numbers (drop (a + 1) (set_fields line)))
-    behind k t g =
+    behind : a < length (drop 4 (fields_of line)) → are_numbers (drop a (set_fields line)) ≡ (not none && are_numbers (drop (a + 1) (set_fields line)))
+    behind k =
         one_more (drop 4 (fields_of line)) 16 a h k
-        ∙ ap₂ (λ (b : Bool) (i : ℕ). b && are_numbers (drop i (set_fields line))) (ap is_number (get_or-drop 4 (fields_of line) a []) ∙ sym g) (sym (add-one a))
+        ∙ ap₂ (λ (b : Bool) (i : ℕ). b && are_numbers (drop i (set_fields line))) (ap is_number (get_or-drop 4 (fields_of line) a []) ∙ some_is) (sym (add-one a))
 
     lacked : length (drop 4 (fields_of line)) ≤ a → whole ≡ (numbers && are_numbers (drop (a + 1) (set_fields line)))
     lacked k =
         inv
         ∙ ap (λ (b : Bool). numbers && b) (no_more (drop 4 (fields_of line)) 16 a k ∙ sym (no_more (drop 4 (fields_of line)) 16 (a + 1) (omega arith)))
 
-    kept : (m : Bool) → m ≡ numbers → whole ≡ (numbers && are_numbers (drop (a + 1) (set_fields line))) → whole ≡ (m && are_numbers (drop (a + 1) (set_fields line)))
-    kept m q g = g ∙ ap (λ (b : Bool). b && are_numbers (drop (a + 1) (set_fields line))) (sym q)
-
-    pub numbers_more : (v : ℕ) → x ≡ Some v → (m : Bool) → m ≡ numbers → whole ≡ (m && are_numbers (drop (a + 1) (set_fields line)))
-    numbers_more v e m q = kept m q (go (ltb a (length (drop 4 (fields_of line)))) refl)
+    pub numbers_more : none ≡ false → whole ≡ (numbers && are_numbers (drop (a + 1) (set_fields line)))
+    numbers_more e = go (ltb a (length (drop 4 (fields_of line)))) refl
       where
         go : (t : Bool) → ltb a (length (drop 4 (fields_of line))) ≡ t → whole ≡ (numbers && are_numbers (drop (a + 1) (set_fields line)))
         go true k =
             inv
             ∙ ap (λ (b : Bool). numbers && b)
-            (behind (ltb-true a (length (drop 4 (fields_of line))) k) true (is_number_lem (field_at line (4 + a)) x given v e))
+            (behind (ltb-true a (length (drop 4 (fields_of line))) k) ∙ ap (λ (t : Bool). not t && are_numbers (drop (a + 1) (set_fields line))) e)
         go false k = lacked (ltb-false a (length (drop 4 (fields_of line))) k)
 
     module _ (n : ℕ) (count : n ≡ length (fields_of line)) where
-      pub numbers_lacked : n ≤ 4 + a → (m : Bool) → m ≡ numbers → whole ≡ (m && are_numbers (drop (a + 1) (set_fields line)))
-      numbers_lacked k m q = kept m q (let e = length-drop 4 (fields_of line) in lacked (omega arith))
+      pub numbers_lacked : n ≤ 4 + a → whole ≡ (numbers && are_numbers (drop (a + 1) (set_fields line)))
+      numbers_lacked k = let e = length-drop 4 (fields_of line) in lacked (omega arith)
 
-      pub numbers_wrong : 4 + a < n → x ≡ None → (m : Bool) → m ≡ false → whole ≡ (m && are_numbers (drop (a + 1) (set_fields line)))
-      numbers_wrong k e m q =
+      pub numbers_wrong : 4 + a < n → none ≡ true → whole ≡ (false && are_numbers (drop (a + 1) (set_fields line)))
+      numbers_wrong k e =
           let l = length-drop 4 (fields_of line) in
-          inv ∙ ap (λ (b : Bool). numbers && b) (behind (omega arith) false (not_number (field_at line (4 + a)) x given e)) ∙ and-false numbers
-          ∙ ap (λ (b : Bool). b && are_numbers (drop (a + 1) (set_fields line))) (sym q)
+          inv ∙ ap (λ (b : Bool). numbers && b) (behind (omega arith) ∙ ap (λ (t : Bool). not t && are_numbers (drop (a + 1) (set_fields line))) e)
+          ∙ and-false numbers
 
 module _ (line : List ℕ) (a : ℕ) (h : a ≤ 16) (k : 16 ≤ a) where
-  pub sets_end : (l next : List ℕ) → next ≡ part (set_at line) a l → length l ≡ 16 → next ≡ next_sets (fields_of line)
+  pub sets_end : (next : List ℕ) → next ≡ part (set_at line) a zeros → next ≡ next_sets (fields_of line)
   unfolding next_sets
-  sets_end l next inv size = let e : a ≡ 16 = omega arith in inv ∙ rw e (part_all (set_at line) 16 l (omega arith))
+  sets_end next inv = let e : a ≡ 16 = omega arith in inv ∙ rw e (part_all (set_at line) 16 zeros (omega arith))
 
   pub numbers_end : (whole numbers : Bool) → whole ≡ (numbers && are_numbers (drop a (set_fields line))) → numbers ≡ whole
   numbers_end whole numbers inv = sym (inv ∙ ap (λ (b : Bool). numbers && b) none ∙ and-true numbers)
@@ -166,7 +160,7 @@ module _ (line : List ℕ) (a : ℕ) (h : a ≤ 16) (k : 16 ≤ a) where
       none : are_numbers (drop a (set_fields line)) ≡ true
       none = all_passed (drop 4 (fields_of line)) 16 a k
 
-pub ruleset sets_kit = (sets_none, set_number, set_lacked, numbers_more, numbers_lacked, numbers_wrong, sets_end, numbers_end)
+pub ruleset sets_kit = (sets_none, set_read, numbers_more, numbers_lacked, numbers_wrong, sets_end, numbers_end)
 
 -- ---- the whole line
 

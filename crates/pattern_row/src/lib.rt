@@ -7,10 +7,10 @@ ghost use Rattle.pattern_line.specs.Line.{fields_of, field_at};
 ghost use Rattle.pattern_order.specs.Answers.{line_said, rows_at};
 ghost use Rattle.pattern_row.specs.Fields.{rule_of};
 ghost use Rattle.pattern_row.specs.Answers.{values_read, row_judged, row_said, next_sets};
+ghost use Rattle.numbers.specs.Numbers.{number_of};
 ghost use Rattle.numbers.specs.Listed.{are_numbers};
 
 use fields::Fields;
-use numbers::number_at;
 use pattern_line::refusals::Refusal;
 use pattern_order::{LineValues, judge_values};
 
@@ -18,10 +18,19 @@ fn rule_at(fields: &Fields<24>) -> u16
     ensures { result ≡ rule_of (field_at fields.now.line.now 1) }
 {
     match fields.field(1) {
-        b"SOME" => 1,
-        b"ALL" => 2,
+        b"SOME" => layout::SOME,
+        b"ALL" => layout::ALL,
         _ => 0,
     }
+}
+
+// The number in the field with this index, by a call: `numbers::number_at` is put where it is asked, which pays for the four fields of a log's line,
+// and not for the twenty of a row.
+#[inline(never)]
+fn number_at(fields: &Fields<24>, index: usize) -> Option<u16>
+    ensures { result ≡ number_of (field_at fields.now.line.now index) }
+{
+    numbers::number_at(fields, index)
 }
 
 // The numbers among the first four fields, and the rule; none where a number is missing.
@@ -41,27 +50,24 @@ fn read_values(fields: &Fields<24>) -> Option<LineValues>
     })
 }
 
-// The next sets: the numbers of the fields after the first four, and 0 for the labels that the line lacks. Each field is read once, so the
-// answer is given too: are those that the line has numbers?
+// The next sets: the numbers of the fields after the first four, and 0 for the labels that the line lacks. Each field is read once, so
+// beside them stands: are those that the line has numbers? It counts by an index, since after `iter_mut().enumerate()` nothing is known of
+// the array.
 #[tactic(auto, using(crate::proofs::RowLaws::sets_kit))]
-fn read_next(fields: &Fields<24>, next: &mut [u16]) -> bool
-    requires next_len { length next.old ≡ 16 }
-    ensures value { result ≡ are_numbers (take 16 (drop 4 (fields_of fields.now.line.now))) }
-    ensures next_after { next.new ≡ next_sets (fields_of fields.now.line.now) }
+fn read_next(fields: &Fields<24>) -> ([u16; 16], bool)
+    ensures sets { result.0 ≡ next_sets (fields_of fields.now.line.now) }
+    ensures numbers { result.1 ≡ are_numbers (take 16 (drop 4 (fields_of fields.now.line.now))) }
 {
+    let mut next = [0; layout::MOST_LABELS];
     let mut numbers = true;
     for a in 0..layout::MOST_LABELS {
-        match number_at(fields, 4 + a) {
-            Some(set) => next[a] = set,
-            None => {
-                next[a] = 0;
-                if 4 + a < fields.len() {
-                    numbers = false;
-                }
-            }
+        let set = number_at(fields, 4 + a);
+        next[a] = set.unwrap_or(0);
+        if set.is_none() && 4 + a < fields.len() {
+            numbers = false;
         }
     }
-    numbers
+    (next, numbers)
 }
 
 // What the line says after the line before; its next sets are left in `next`. The line is split once.
@@ -70,23 +76,19 @@ pub fn read_row(
     line: &[u8],
     labels: u16,
     last: Option<LineValues>,
-    next: &mut [u16],
+    next: &mut [u16; layout::MOST_LABELS],
 ) -> Result<LineValues, Refusal>
-    requires { (labels ≤ most_labels) × (length next.old ≡ 16) }
+    requires { labels ≤ most_labels }
     ensures result_value { result ≡ row_judged labels (rows_at last) (fields_of line.now) }
     ensures said { line_said result ≡ row_said labels (rows_at last) (fields_of line.now) }
     ensures next_after { next.new ≡ next_sets (fields_of line.now) }
 {
     let fields: Fields<24> = Fields::split(line);
-    let numbers = read_next(&fields, next);
-    if fields.len() != 4 + usize::from(labels) {
+    let (sets, numbers) = read_next(&fields);
+    *next = sets;
+    if fields.len() != 4 + usize::from(labels) || !numbers {
         return Err(Refusal::Malformed);
     }
-    if !numbers {
-        return Err(Refusal::Malformed);
-    }
-    match read_values(&fields) {
-        None => Err(Refusal::Malformed),
-        Some(values) => judge_values(values, last),
-    }
+    let values = read_values(&fields).ok_or(Refusal::Malformed)?;
+    judge_values(values, last)
 }

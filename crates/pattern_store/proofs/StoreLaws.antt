@@ -2,15 +2,15 @@
 -- Assumes nothing.
 use mathlib.Core.Path.{◌≡◌, refl, sym, ap, ap₂, ◌∙◌}
 use mathlib.Core.List.{List, ◌++◌}
-use Prim.Native.Nat.{ℕ, ◌+◌, ◌-◌, ◌*◌, ◌≤◌, ◌<◌}
+use Prim.Native.Nat.{ℕ, ◌+◌, ◌-◌}
 use native.Mathlib.Omega.{arith}
 use borrow.Author.Tests.{eq-eqb, ne_eqb}
 use borrow.Rule.Slice.PartMut.{put_mid}
-use lib.ListN.{length, get_or, take, drop, set}
+use lib.ListN.{get_or, take, drop, set}
 use lib.Seq.{drop-drop}
 use Rattle.sets.specs.Sets.{singleton, union}
-use Rattle.layout.specs.Layout.{pattern_length}
-use Rattle.pattern_store.specs.Store.{Storable, accepting_with, stored_values, stored}
+use Rattle.layout.specs.Layout.{next_at}
+use Rattle.pattern_store.specs.Store.{bead_at, accepting_with, stored_values, stored}
 use Rattle.pattern_order.specs.declared.LineValues.{LineValues}
 
 -- ---- the final set
@@ -26,34 +26,22 @@ pub ruleset accepting_kit = (accepting_more, accepting_same)
 
 -- ---- a row
 
-module _ (b : List ℕ) (v : LineValues) (f : Storable v) (size : length b ≡ pattern_length) where
-  pub place : (k : ℕ) → k ≤ 18 → k + (v.bead - 1) < length b
-  place k h = let n = f.bead_high in omega arith
-
+module _ (b : List ℕ) (v : LineValues) where
   pub values_stored : (x : ℕ) → x ≡ accepting_with (get_or b (18 + (v.bead - 1)) 0) v
       → set (set (set (set b 1 v.bead) (2 + (v.bead - 1)) v.rule) (10 + (v.bead - 1)) (v.state + 1)) (18 + (v.bead - 1)) x ≡ stored_values b v
   unfolding stored_values
   values_stored x e = rw e refl
 
-pub ruleset values_kit = (place, values_stored)
+pub ruleset values_kit = (values_stored)
 
--- the place of the next sets, as the code has it
-abbrev pub from : LineValues → ℕ
-from v = 26 + 256 * (v.bead - 1) + 16 * v.state
-
-module _ (b l next part : List ℕ) (v : LineValues) (g : l ≡ stored_values b v) where
-  pub sets_inside : Storable v → length l ≡ pattern_length → from v + 16 ≤ length l
-  sets_inside f n = let h = f.bead_high in let k = f.state_high in omega arith
-
-  pub row_stored_lem : Storable v → length next ≡ 16 → part ≡ next
-      → put_mid (from v) (from v + 16 - from v) l part ≡ stored b v next
+module _ (b l next part : List ℕ) (v : LineValues) (g : l ≡ stored_values b v) (x y i : ℕ) (bead : x ≡ v.bead) (state : y ≡ v.state) (at : i ≡ next_at (x - 1) y 0) where
+  pub row_stored_lem : part ≡ next → put_mid i (i + 16 - i) l part ≡ stored b v next
   unfolding stored
-  row_stored_lem f sets p =
-      let n : from v + 16 - from v ≡ 16 = omega arith in
-      let m : from v ≡ from v + 0 = omega arith in
-      let k : from v + 16 ≡ from v + 0 + 16 = omega arith in
-      ap₂ (λ (y z : List ℕ). take (from v) l ++ (y ++ z)) p (drop-drop (from v + 16 - from v) (from v) l ∙ ap (λ (i : ℕ). drop (from v + i) l) n)
-      ∙ ap₂ (λ (i j : ℕ). take i l ++ (next ++ drop j l)) m k
-      ∙ ap (λ (y : List ℕ). take (from v + 0) y ++ (next ++ drop (from v + 0 + 16) y)) g
+  row_stored_lem p =
+      let n : i + 16 - i ≡ 16 = omega arith in
+      let m : i ≡ next_at (bead_at v) v.state 0 = at ∙ rw (bead, state) refl in
+      ap₂ (λ (y z : List ℕ). take i l ++ (y ++ z)) p (drop-drop (i + 16 - i) i l ∙ ap (λ (k : ℕ). drop (i + k) l) n)
+      ∙ ap (λ (k : ℕ). take k l ++ (next ++ drop (k + 16) l)) m
+      ∙ ap (λ (y : List ℕ). take (next_at (bead_at v) v.state 0) y ++ (next ++ drop (next_at (bead_at v) v.state 0 + 16) y)) g
 
-pub ruleset store_kit = (sets_inside, row_stored_lem)
+pub ruleset store_kit = (row_stored_lem)

@@ -1,8 +1,8 @@
-// A row's numbers in the pattern buffer.
+// A row's numbers in the pattern buffer. That its bead and state are places of it (`Storable`) is asked by each: a line's answer is a struct of plain
+// numbers, without a ghost field.
 #![tactic(auto)]
 
-ghost use Rattle.std.specs.Prelude.{◌≡◌, length};
-ghost use Rattle.layout.specs.Layout.{pattern_length};
+ghost use Rattle.std.specs.Prelude.{◌≡◌};
 ghost use Rattle.pattern_store.specs.Store.{Storable, accepting_with, stored_values, stored};
 
 use pattern_order::LineValues;
@@ -14,18 +14,19 @@ fn accepting_with(set: u16, v: LineValues) -> u16
     ensures { result ≡ accepting_with set v }
 {
     if v.accepting == 1 {
-        return sets::union(set, sets::singleton(v.state));
+        sets::union(set, sets::singleton(v.state))
+    } else {
+        set
     }
-    set
 }
 
 // Stores what a line says but for its next sets.
 #[tactic(auto, using(crate::proofs::StoreLaws::values_kit))]
-fn store_values(buffer: &mut [u16], v: LineValues)
-    requires { (length buffer.old ≡ pattern_length) × Storable v }
+fn store_values(buffer: &mut [u16; layout::PATTERN_LENGTH], v: LineValues)
+    requires { Storable v }
     ensures { buffer.new ≡ stored_values buffer.old v }
 {
-    let j = v.bead as usize - 1;
+    let j = usize::from(v.bead) - 1;
     let accepting = accepting_with(buffer[layout::FINAL_SETS + j], v);
     buffer[1] = v.bead;
     buffer[layout::RULES + j] = v.rule;
@@ -35,13 +36,15 @@ fn store_values(buffer: &mut [u16], v: LineValues)
 
 // Stores what a line says, with the next sets of its labels.
 #[tactic(auto, using(crate::proofs::StoreLaws::store_kit))]
-pub fn store_row(buffer: &mut [u16], v: LineValues, next: &[u16])
-    requires { (length buffer.old ≡ pattern_length) × (length next.now ≡ 16) × Storable v }
+pub fn store_row(
+    buffer: &mut [u16; layout::PATTERN_LENGTH],
+    v: LineValues,
+    next: &[u16; layout::MOST_LABELS],
+)
+    requires { Storable v }
     ensures { buffer.new ≡ stored buffer.old v next.now }
 {
     store_values(buffer, v);
-    let from = layout::NEXT_SETS
-        + layout::SETS_A_BEAD * (v.bead as usize - 1)
-        + layout::SETS_A_STATE * v.state as usize;
-    buffer[from..from + 16].copy_from_slice(next);
+    let from = layout::next_sets_at(usize::from(v.bead) - 1, usize::from(v.state));
+    buffer[from..from + layout::MOST_LABELS].copy_from_slice(next);
 }

@@ -1,5 +1,6 @@
 // Is a buffer one that an accepted pattern text gives? The host's test for refusal 6 (document 01).
 // The definition looks at each place by itself, and so does this code; the theorem `pattern_buffers` says what it means.
+// That a place is one of eight beads is asked by each: it is a bound of the caller's loop.
 #![tactic(auto)]
 
 ghost use Rattle.std.specs.Prelude.{◌≡◌, ◌<◌};
@@ -25,7 +26,7 @@ fn bead_ok(pattern: &PatternNumbers, j: usize) -> bool
     let states = pattern.states(j);
     let accepting = pattern.accepting(j);
     if j < pattern.beads() {
-        (1..=2).contains(&rule)
+        (layout::SOME..=layout::ALL).contains(&rule)
             && turn_ok(pattern, j)
             && (1..=16).contains(&states)
             && sets::within(accepting, states)
@@ -38,7 +39,7 @@ fn bead_ok(pattern: &PatternNumbers, j: usize) -> bool
 fn beads_ok(pattern: &PatternNumbers) -> bool
     ensures { result ≡ beads_ok pattern.now }
 {
-    (0..8).all(|j| bead_ok(pattern, j))
+    (0..layout::MOST_BEADS).all(|j| bead_ok(pattern, j))
 }
 
 // Is the buffer what some accepted pattern text gives? It asks nothing of its caller: the length comes first.
@@ -49,8 +50,8 @@ pub fn is_pattern(buffer: &[u16]) -> bool
     let Some(pattern) = PatternNumbers::new(buffer) else {
         return false;
     };
-    (1..=16).contains(&pattern.labels())
-        && (1..=8).contains(&pattern.beads())
+    (1..=layout::MOST_LABELS).contains(&pattern.labels())
+        && (1..=layout::MOST_BEADS).contains(&pattern.beads())
         && beads_ok(&pattern)
         && pattern.nexts_ok()
 }

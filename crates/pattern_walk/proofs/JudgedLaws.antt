@@ -190,7 +190,4 @@ row_storable labels last fs v a begun said q =
 pub row_stored_lem : (b : List ℕ) (fs : List (List ℕ)) (next after : List ℕ) (v : LineValues) → next ≡ next_sets fs → after ≡ stored b v next → after ≡ row_stored b (Ok v) fs
 row_stored_lem b fs next after v n e = e ∙ ap (stored b v) n
 
-pub sets_long : (fs : List (List ℕ)) (next : List ℕ) → next ≡ next_sets fs → length next ≡ 16
-sets_long fs next e = ap length e ∙ sets_size fs
-
-pub ruleset take_kit = (row_storable, row_stored_lem, sets_long)
+pub ruleset take_kit = (row_storable, row_stored_lem)

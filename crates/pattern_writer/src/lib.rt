@@ -1,18 +1,17 @@
 // The pattern writer: from the numbers of a pattern buffer, under a header, to the text that gives them.
 #![tactic(auto)]
 
-ghost use Rattle.std.specs.Prelude.{◌<◌, ◌≡◌, T, length};
+ghost use Rattle.std.specs.Prelude.{◌<◌, ◌≡◌, true, length};
 ghost use Rattle.writing.specs.Put.{Put};
-ghost use Rattle.answer.specs.Answers.{refused_in};
-ghost use Rattle.pattern_byte.specs.Header.{header_text_at};
-ghost use Rattle.pattern_buffer.specs.Valid.{is_pattern};
+ghost use Rattle.pattern_buffer.specs.Meaning.{labels_in};
 ghost use Rattle.pattern_writer.specs.Writer.{names, header_fits, written, room_faults, test_faults, write_answer, text_after};
-ghost use Rattle.pattern_writer.specs.Tested.{Tested, answer_under, text_under_faults};
+ghost use Rattle.pattern_writer.specs.Tested.{answer_under, text_under_faults};
 
 use answer::Answer;
 use pattern_byte::header_byte;
 use pattern_header::read_header;
-use pattern_layout::put_beads;
+use pattern_layout::TestedPattern;
+use pattern_line::refusals::Refusal;
 use text::lines::read_line;
 use writing::Output;
 
@@ -21,10 +20,7 @@ use writing::Output;
 fn names_labels(labels: u16, line: &[u8]) -> bool
     ensures { result ≡ names labels line.now }
 {
-    match read_header(line) {
-        Err(_) => false,
-        Ok(count) => count == labels,
-    }
+    read_header(line).is_ok_and(|count| count == labels)
 }
 
 // Is the header text one such line, whole and with nothing behind it?
@@ -32,58 +28,35 @@ fn names_labels(labels: u16, line: &[u8]) -> bool
 fn header_fits(labels: u16, header: &[u8]) -> bool
     ensures { result ≡ header_fits labels header.now }
 {
-    match read_line(header, layout::MOST_LINE) {
-        Err(_) => false,
-        Ok(n) => {
-            if n + 1 < header.len() {
-                return false;
-            }
-            names_labels(labels, &header[..n])
-        }
-    }
+    let Ok(n) = read_line(header, layout::MOST_LINE) else {
+        return false;
+    };
+    header.len() <= n + 1 && names_labels(labels, &header[..n])
 }
 
 // The output, from the front of a buffer, as far as there are places: the header text as it is, then the rows. Answers how long it is.
 #[tactic(auto, using(crate::proofs::WriteLaws::output_kit))]
-fn put_pattern(out: &mut [u8], pattern: &[u16], header: &[u8]) -> usize
-    requires { T (is_pattern pattern.now) }
-    ensures { Put (written header.now pattern.now) 0 out.old result out.new }
+fn put_pattern(out: &mut [u8], pattern: TestedPattern, header: &[u8]) -> usize
+    ensures { Put (written header.now pattern.entry.numbers.now) 0 out.old result out.new }
 {
     let mut output = Output::new(out);
     output.put_bytes(header);
-    put_beads(&mut output, pattern);
+    pattern.put_beads(&mut output);
     output.at
-}
-
-// How long the output is: put where there are no places.
-fn measure(pattern: &[u16], header: &[u8]) -> usize
-    requires { T (is_pattern pattern.now) }
-    ensures { result ≡ length (written header.now pattern.now) }
-{
-    let mut nowhere = [0u8; 0];
-    put_pattern(&mut nowhere, pattern, header)
 }
 
 // Test 8, and the output, of a pattern and a header that passed their tests.
 #[tactic(auto, using(crate::proofs::WriteLaws::text_kit))]
-fn write_text(pattern: &[u16], header: &[u8], text: &mut [u8]) -> Answer
-    requires { Tested pattern.now header.now }
-    ensures value { result ≡ answer_under (room_faults pattern.now header.now text.old) pattern.now header.now }
-    ensures text_after { text.new ≡ text_under_faults (room_faults pattern.now header.now text.old) pattern.now header.now text.old }
+fn write_text(pattern: TestedPattern, header: &[u8], text: &mut [u8]) -> Answer
+    requires { header_fits (labels_in pattern.numbers.now) header.now ≡ true }
+    ensures value { result ≡ answer_under (room_faults pattern.entry.numbers.now header.now text.old) pattern.entry.numbers.now header.now }
+    ensures text_after { text.new ≡ text_under_faults (room_faults pattern.entry.numbers.now header.now text.old) pattern.entry.numbers.now header.now text.old }
 {
-    let n = measure(pattern, header);
-    if text.len() < n {
-        return answer::refused(8, 0);
+    // As in `log_writer`: the length is proved to fit.
+    match writing::lay(text, |room| put_pattern(room, pattern, header)) {
+        None => answer::refused(8, 0),
+        Some(n) => answer::accepted(n as u16),
     }
-    put_pattern(text, pattern, header);
-    answer::accepted(n as u16)
-}
-
-// The refusal of a header text, with the place in its line.
-fn refuse_header(header: &[u8]) -> Answer
-    ensures { result ≡ refused_in 12 1 (header_text_at header.now) }
-{
-    answer::refused_in(12, 1, header_byte(header))
 }
 
 // Tests 6 and 12, and the rest, on a pattern buffer of its documented length.
@@ -97,9 +70,9 @@ fn write_fit(pattern: &[u16], header: &[u8], text: &mut [u8]) -> Answer
         return answer::refused(6, 0);
     }
     if !header_fits(pattern[0], header) {
-        return refuse_header(header);
+        return answer::refused_in(u16::from(Refusal::Header), 1, header_byte(header));
     }
-    write_text(pattern, header, text)
+    write_text(TestedPattern { numbers: pattern }, header, text)
 }
 
 // Writes a pattern under a header text. Accepted, the output stands in front of the text buffer, and its length is the count; refused,

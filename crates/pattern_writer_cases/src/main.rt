@@ -1,6 +1,5 @@
 // The pattern writer on the rooms that texts give: those of `cases.txt`, a line a case, then those of the program `pattern_cases`
-// (`texts.txt` is a copy of its file). At the end, how many cases there were of each kind and how many got each answer; `names.txt` has
-// the names of the counts.
+// (`texts.txt` is a copy of its file). At the end, how many cases there were of each kind and how many got each answer.
 //
 // A line of a file has its columns parted by tabs: what is tried; the pattern as a script (`script::expand`), `=` for the listing of
 // document 01 (`pattern.txt`); settings (crate `settings`); and the header text as a script, the pattern's own first line where the
@@ -10,14 +9,10 @@
 
 use answer::Answer;
 use settings::Settings;
+use std::io;
 use std::rt::Files;
-use std::{fs, io};
-use text_room::{Case, Kind, Kinds, Writer, try_writer};
+use text_room::{Case, Kind, Kinds, Writer, try_files, try_writer};
 use trial::column;
-
-const OWN_HEADER: Kind = Kind::Own(0);
-
-const OTHER_HEADER: Kind = Kind::Own(1);
 
 // The pattern writer with its header text.
 #[derive(Clone, Copy)]
@@ -49,14 +44,7 @@ impl<'a> Writer for PatternWriter<'a> {
 }
 
 fn main(rt: HostRuntime) -> io::Result<()> {
-    let mut kinds = Kinds::new();
-    for path in ["cases.txt", "texts.txt"] {
-        let file = fs::read_to_string(&rt, path)?;
-        for line in file.lines() {
-            try_case(&rt, line, &mut kinds)?;
-        }
-    }
-    kinds.print(&rt)
+    try_files(&rt, |line, kinds| try_case(&rt, line, kinds))
 }
 
 fn try_case(
@@ -67,7 +55,7 @@ fn try_case(
     let settings = Settings::new(column(line, 2));
     let text = script::load(rt, column(line, 1), "pattern.txt", 17000)?;
     let mut pattern = outcome::marked(rt.alloc(), 2080)?;
-    if pattern::read_pattern(&text, &mut pattern).number > 0 {
+    if !pattern::read_pattern(&text, &mut pattern).is_accepted() {
         kinds.add(Kind::Unread);
         return Ok(());
     }
@@ -76,10 +64,10 @@ fn try_case(
     let header_script = column(line, 3);
     let other_header = script::expand(rt.alloc(), header_script, 1000)?;
     let header = if header_script.is_empty() {
-        kinds.add(OWN_HEADER);
+        kinds.add(Kind::OwnHeader);
         text.split_inclusive(|b| *b == b'\n').next().unwrap_or(&[])
     } else {
-        kinds.add(OTHER_HEADER);
+        kinds.add(Kind::OtherHeader);
         &other_header
     };
     let case = Case {

@@ -65,11 +65,11 @@ fn header(alloc: Global, labels: u16, first: u64) -> Result<String, AllocError> 
     Ok(header)
 }
 
-// A number in front of the next sets, any number, or a next set that the pattern has.
+// A number in front of the next sets, any number, or a next set that the pattern has: by the number that is drawn.
 fn place_of(pattern: &PatternRoom, kind: u64, x: u16) -> usize {
     match kind {
-        0 => usize::from(x) % 26,
-        1 => usize::from(x) % 2074,
+        0 => usize::from(x) % PatternRoom::NEXTS,
+        1 => usize::from(x) % PatternRoom::LENGTH,
         _ => next_place(pattern, x),
     }
 }

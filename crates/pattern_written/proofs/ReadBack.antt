@@ -68,7 +68,7 @@ module _ (pattern header text : List ℕ) (a : T (accepts pattern header text)) 
   -- The count is at most 65,535: a u16 holds it.
   pub written_fits : (length (pattern_written header pattern) ≤ 14065) × ((write_answer pattern header text).count ≤ 65535)
   written_fits =
-      let h = written_length b header tested in
+      let h = written_length b header tested.pattern_passes tested.fits in
       let c : (write_answer pattern header text).count ≡ length (pattern_written header pattern) = ap (λ (r : Answer). r.count) counts in
       (h, omega arith)
 

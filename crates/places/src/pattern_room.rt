@@ -1,15 +1,6 @@
 // The room of a pattern. Beads, states and labels are counted from 0 here.
 use trial::{get, put};
 
-// Where the rules, the state counts, the final sets and the next sets stand.
-const RULES: usize = 2;
-
-const STATE_COUNTS: usize = 10;
-
-const FINALS: usize = 18;
-
-const NEXTS: usize = 26;
-
 // On some route to a step, or on all.
 #[derive(Clone, Copy, PartialEq, Eq)]
 pub enum Rule {
@@ -19,13 +10,27 @@ pub enum Rule {
 
 #[derive(Clone, Copy)]
 pub struct PatternRoom {
-    pub numbers: [u16; 2074],
+    pub numbers: [u16; PatternRoom::LENGTH],
 }
 
 impl PatternRoom {
+    // Where the rules, the state counts, the final sets and the next sets stand, and how many numbers there are: said here once more, as
+    // those of a log.
+    pub const RULES: usize = 2;
+
+    pub const STATE_COUNTS: usize = 10;
+
+    pub const FINALS: usize = 18;
+
+    pub const NEXTS: usize = 26;
+
+    pub const LENGTH: usize = 2074;
+
     // A pattern of no labels and no beads.
     pub fn new() -> PatternRoom {
-        PatternRoom { numbers: [0; 2074] }
+        PatternRoom {
+            numbers: [0; PatternRoom::LENGTH],
+        }
     }
 
     pub fn label_count(&self) -> u16 {
@@ -37,18 +42,18 @@ impl PatternRoom {
     }
 
     pub fn rule(&self, bead: u16) -> Rule {
-        match get(&self.numbers, RULES + usize::from(bead)) {
+        match get(&self.numbers, PatternRoom::RULES + usize::from(bead)) {
             1 => Rule::ForSome,
             _ => Rule::ForAll,
         }
     }
 
     pub fn state_count(&self, bead: u16) -> u16 {
-        get(&self.numbers, STATE_COUNTS + usize::from(bead))
+        get(&self.numbers, PatternRoom::STATE_COUNTS + usize::from(bead))
     }
 
     pub fn finals(&self, bead: u16) -> u16 {
-        get(&self.numbers, FINALS + usize::from(bead))
+        get(&self.numbers, PatternRoom::FINALS + usize::from(bead))
     }
 
     // The states after a label that is read in this state.
@@ -57,7 +62,7 @@ impl PatternRoom {
     }
 
     pub fn next_place(bead: u16, state: u16, label: u16) -> usize {
-        NEXTS + usize::from(bead) * 256 + usize::from(state) * 16 + usize::from(label)
+        PatternRoom::NEXTS + usize::from(bead) * 256 + usize::from(state) * 16 + usize::from(label)
     }
 
     pub fn set_counts(&mut self, labels: u16, beads: u16) {
@@ -66,9 +71,21 @@ impl PatternRoom {
     }
 
     pub fn set_bead(&mut self, bead: u16, rule: Rule, states: u16, finals: u16) {
-        put(&mut self.numbers, RULES + usize::from(bead), rule as u16);
-        put(&mut self.numbers, STATE_COUNTS + usize::from(bead), states);
-        put(&mut self.numbers, FINALS + usize::from(bead), finals);
+        put(
+            &mut self.numbers,
+            PatternRoom::RULES + usize::from(bead),
+            rule as u16,
+        );
+        put(
+            &mut self.numbers,
+            PatternRoom::STATE_COUNTS + usize::from(bead),
+            states,
+        );
+        put(
+            &mut self.numbers,
+            PatternRoom::FINALS + usize::from(bead),
+            finals,
+        );
     }
 
     pub fn set_next(&mut self, bead: u16, state: u16, label: u16, to: u16) {

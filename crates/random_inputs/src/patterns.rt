@@ -90,7 +90,8 @@ pub fn draw_pattern(beads: u16, random: &mut Random) -> PatternRoom {
     pattern
 }
 
-// Often few, so that steps share labels.
+// Often few, so that steps share labels. The shape is a number drawn and matched at once: an enum would need a table from number to shape
+// beside this one from shape to count.
 fn label_count(shape: u64, size: u16) -> u16 {
     match shape {
         0 => 1 + size % 2,
@@ -118,6 +119,7 @@ fn draw_bead(pattern: &mut PatternRoom, bead: u16, rule: Rule, mild: bool, rando
     }
 }
 
+// From a shape drawn, as the label count.
 fn state_count(shape: u64, size: u16) -> u16 {
     match shape {
         0 => 1,

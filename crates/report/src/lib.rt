@@ -38,8 +38,7 @@ fn put_lines(output: &mut Output, beads: u16, steps: u16, res: &[u16])
     requires at_bound { output.old.at ≤ 23 }
     ensures { Adds (row_lines beads steps res.now) output.old output.new }
 {
-    for step in 0..steps {
-        let from = layout::ROW_LENGTH * usize::from(step);
-        put_row(output, beads, step, &res[from..from + layout::ROW_LENGTH]);
+    for (step, row) in (0..steps).zip(res.chunks_exact(layout::ROW_LENGTH)) {
+        put_row(output, beads, step, row);
     }
 }

@@ -63,7 +63,7 @@ fn put_pivots(output: &mut Output, beads: u16, row: &[u16])
     ensures upper_bound { output.new.at ≤ output.old.at + 54 }
 {
     if whole_holds(beads, row[0]) {
-        let others = usize::from(beads.min(8));
+        let others = usize::from(beads).min(layout::MOST_BEADS);
         output.put_number(row[1]);
         output.put_listed(b',', &row[2..2 + others]);
     } else {
@@ -76,5 +76,6 @@ fn put_pivots(output: &mut Output, beads: u16, row: &[u16])
 fn whole_holds(beads: u16, prefixes: u16) -> bool
     ensures { result ≡ member (beads - 1) prefixes }
 {
+    // 16 is how many members a set can have, and no limit of `layout`.
     beads <= 16 && sets::member(prefixes, beads.saturating_sub(1))
 }

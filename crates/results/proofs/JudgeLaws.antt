@@ -19,6 +19,7 @@ use Rattle.log_links.proofs.LinkLaws.{laid}
 use Rattle.prefix_phase.proofs.MarkLaws.{all_beads}
 use Rattle.prefix_phase.specs.Marked.{Tried, Unmarked, Marks}
 use Rattle.walk_places.specs.Walked.{WalkedBack}
+use Rattle.walk_places.proofs.PlaceLaws.{tried_some, tried_beads, tried_steps}
 use Rattle.layout.specs.Layout.{result_length, row_length}
 use Rattle.results.specs.Result.{rows_up_to, whole_up_to, rows_of}
 use Rattle.results.specs.Arrays.{result_from, Sized}
@@ -85,4 +86,4 @@ tried_laid pattern log t = laid (labels_in pattern) log t.log_passes
 
 pub ruleset all_kit = (all_beads, tried_laid)
 
-pub ruleset tried_kit = (sized, pattern_there, log_there)
+pub ruleset tried_kit = (tried_some, tried_beads, tried_steps, pattern_there, log_there)

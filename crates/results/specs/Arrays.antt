@@ -10,7 +10,7 @@ abbrev pub result_from : ℕ → List ℕ → List ℕ → ℕ → List ℕ → 
 result_from beads prefixes pivots n result =
     rows_from beads prefixes pivots n ++ (replicate (result_length - row_length * n) 0 ++ drop result_length result)
 
--- Two buffers that passed their tests, and how many beads and steps they have.
+-- Two buffers that passed their tests, and how many beads and steps they have. Laws alone go by it; no contract names it.
 pub record Sized (pattern log : List ℕ) (beads n : ℕ) : Type 0 where
   pub tried : Tried pattern log
   pub beads_are : beads ≡ beads_in pattern

@@ -6,7 +6,7 @@ ghost use Rattle.log_buffer.specs.Meaning.{log_of, steps_in};
 ghost use Rattle.pattern_buffer.specs.Meaning.{pattern_of};
 ghost use Rattle.prefix_phase.specs.Marked.{Tried, Unmarked, Marks};
 ghost use Rattle.walk_places.specs.Walked.{WalkedBack};
-ghost use Rattle.results.specs.Arrays.{result_from, Sized};
+ghost use Rattle.results.specs.Arrays.{result_from};
 ghost use Rattle.results.specs.Result.{whole_up_to, rows_of};
 
 use log_links::Log;
@@ -20,17 +20,17 @@ use serving::Course;
 fn fill_arrays(
     pattern: &[u16],
     log: &[u16],
-    prefixes: &mut [u16],
-    pivots: &mut [u16],
+    prefixes: &mut [u16; layout::MOST_STEPS],
+    pivots: &mut [u16; layout::PIVOTS_LENGTH],
     work: &mut [u16],
 )
-    requires in_bounds { (1024 ≤ length prefixes.old) × (9216 ≤ length pivots.old) × (16384 ≤ length work.old) }
+    requires in_bounds { 16384 ≤ length work.old }
     requires tried { Tried pattern.now log.now }
     requires unmarked { Unmarked prefixes.old }
     ensures marks { Marks (log_of log.now) (pattern_of pattern.now) (steps_in log.now) prefixes.new }
     ensures walked_back { WalkedBack (log_of log.now) (pattern_of pattern.now) (steps_in log.now) pivots.new }
 {
-    let mut hopes = [0u16; 8];
+    let mut hopes = [0u16; layout::MOST_BEADS];
     let mut last = [0u16; layout::MOST_STEPS];
     let log = Log::new(log);
     hope::fill_hopes(pattern, &mut hopes);
@@ -55,33 +55,6 @@ fn write_result(found: &Found, res: &mut [u16])
     res[layout::ROW_LENGTH * found.steps..layout::RESULT_LENGTH].fill(0);
 }
 
-// Judges buffers that passed their tests: their beads and steps are known.
-fn judge_arrays(
-    pattern: &[u16],
-    log: &[u16],
-    beads: u16,
-    n: usize,
-    res: &mut [u16],
-    work: &mut [u16],
-) -> u16
-    requires sized { Sized pattern.now log.now beads n }
-    requires in_bounds { (10240 ≤ length res.old) × (length work.old ≡ 16384) }
-    ensures value { result ≡ whole_up_to (log_of log.now) (pattern_of pattern.now) (log_of log.now).size }
-    ensures res_after { res.new ≡ rows_of (log_of log.now) (pattern_of pattern.now) ++ drop 10240 res.old }
-{
-    let mut prefixes = [0u16; layout::MOST_STEPS];
-    let mut pivots = [0u16; layout::PIVOTS_LENGTH];
-    fill_arrays(pattern, log, &mut prefixes, &mut pivots, work);
-    let found = Found {
-        beads,
-        steps: n,
-        prefixes: &prefixes,
-        pivots: &pivots,
-    };
-    write_result(&found, res);
-    rows::count_whole(beads, n, &prefixes)
-}
-
 // Judges buffers that passed their tests, and leaves zeros in the work buffer.
 #[tactic(auto, using(crate::proofs::JudgeLaws::tried_kit))]
 pub fn judge_tried(pattern: &[u16], log: &[u16], res: &mut [u16], work: &mut [u16]) -> u16
@@ -91,9 +64,16 @@ pub fn judge_tried(pattern: &[u16], log: &[u16], res: &mut [u16], work: &mut [u1
     ensures res_after { res.new ≡ rows_of (log_of log.now) (pattern_of pattern.now) ++ drop 10240 res.old }
     ensures work_after { work.new ≡ replicate (length work.old) 0 }
 {
-    let beads = pattern[1];
-    let n = usize::from(log[0]);
-    let count = judge_arrays(pattern, log, beads, n, res, work);
+    let mut prefixes = [0u16; layout::MOST_STEPS];
+    let mut pivots = [0u16; layout::PIVOTS_LENGTH];
+    fill_arrays(pattern, log, &mut prefixes, &mut pivots, work);
+    let found = Found {
+        beads: pattern[1],
+        steps: usize::from(log[0]),
+        prefixes: &prefixes,
+        pivots: &pivots,
+    };
+    write_result(&found, res);
     work.fill(0);
-    count
+    rows::count_whole(found.beads, found.steps, &prefixes)
 }

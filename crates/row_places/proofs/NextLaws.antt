@@ -13,7 +13,7 @@ use lib.Pow.{pow_mono}
 use Rattle.sets.specs.Sets.{within, single}
 use Rattle.numbers.specs.Numbers.{plain, digits, value_from, decimal, largest, value_of}
 use Rattle.lists.proofs.LeftmostLaws.{leftmost_none}
-use Rattle.line_places.specs.Place.{place_at}
+use Rattle.line_places.specs.Place.{as_place, place_at}
 use Rattle.line_places.proofs.PlaceLaws.{place_lacking}
 use Rattle.pattern_places.specs.Place.{stray_set, straying_at, ambiguous_set}
 
@@ -56,9 +56,9 @@ value_most bs = go (plain bs && digits bs && leb (value_from 0 bs) largest) refl
     go true e = leb-true (value_from 0 bs) largest (last (plain bs && digits bs) (leb (value_from 0 bs) largest) e)
     go false e = omega arith
 
-pub none_strays : (n : ℕ) (fs : List (List ℕ)) → 15 < n → 0 ≡ straying_at n fs
-unfolding stray_set
-none_strays n fs h = sym (ap (place_at fs) (sym (leftmost_none (stray_set n fs) (length fs) (record { none = λ j k. inside (leb 4 j) j }) (length fs) (omega arith) (omega arith))) ∙ place_lacking fs (length fs) (omega arith))
+pub none_strays : (n : ℕ) (fs : List (List ℕ)) → 16 ≤ n → None ≡ as_place (straying_at n fs)
+unfolding stray_set as_place
+none_strays n fs h = sym (ap as_place (ap (place_at fs) (sym (leftmost_none (stray_set n fs) (length fs) (record { none = λ j k. inside (leb 4 j) j }) (length fs) (omega arith) (omega arith))) ∙ place_lacking fs (length fs) (omega arith)))
   where
     big : 2 ^ 16 ≤ 2 ^ n
     big = pow_mono {i = 16} {j = n} (omega arith)

@@ -1,90 +1,91 @@
 -- 13, as the code finds it: the bead, else the state, else final.
 -- Assumes nothing.
-use mathlib.Core.Path.{◌≡◌, refl, sym, ◌∙◌}
-use mathlib.Core.Bool.{Bool, true, false, not, cond, ◌||◌}
+use mathlib.Core.Path.{◌≡◌, refl, sym, ap, ◌∙◌}
+use mathlib.Core.Bool.{Bool, true, false, not}
 use mathlib.Core.List.{List, [], ◌∷◌}
 use Prim.Native.Nat.{ℕ, ◌+◌, ◌≤◌, ◌<◌}
 use native.Mathlib.Omega.{arith}
-use borrow.Author.Tests.{lt-ltb, le-ltb, eq-eqb, ne_eqb}
-use lib.Dec.{eqb, ltb}
-use lib.ListN.{get_or}
-use Rattle.numbers.specs.Numbers.{value_of}
-use Rattle.line_places.specs.Place.{place_at}
+use borrow.Author.Tests.{lt-ltb, le-ltb, le-leb, eq-eqb, ne_eqb}
+use lib.Dec.{eqb, leb, ltb}
+use Rattle.std.specs.Prelude.{Option, Some, None}
+use Rattle.line_places.specs.Place.{as_place, place_at}
 use Rattle.pattern_row.specs.Fields.{row_of}
 use Rattle.pattern_places.specs.Place.{bead_wrong, state_wrong, disordered_at}
+use Rattle.row_places.specs.declared.order.Said.{Said}
+use Rattle.row_places.specs.Said.{row_said, rows_said}
 
--- ---- a bead after a bead
+-- ---- a bead and a state, in the first line or after another
 
-module _ (b l : ℕ) where
-  pub bead_over : 8 < b → ltb 8 b ≡ (ltb 8 b || not (eqb b l || eqb b (l + 1)))
-  bead_over h = rw (lt-ltb 8 b h) refl
-
-  module _ (h : b ≤ 8) where
-    pub bead_again : b ≡ l → false ≡ (ltb 8 b || not (eqb b l || eqb b (l + 1)))
-    bead_again e = sym (rw (le-ltb 8 b h, eq-eqb b l e) refl)
-
-    pub bead_other : (b ≡ l → ⊥) → (x y : ℕ) → x ≡ b → y ≡ l → not (eqb x (y + 1)) ≡ (ltb 8 b || not (eqb b l || eqb b (l + 1)))
-    bead_other n x y p q = rw (p, q) (sym (rw (le-ltb 8 b h, ne_eqb b l n) refl))
-
-pub ruleset bead_kit = (bead_over, bead_again, bead_other)
-
--- ---- a state after a state, in the same bead or not
-
-module _ (a : Bool) (s l : ℕ) where
-  pub state_over : 15 < s → true ≡ (not (ltb s 16) || cond a (not (eqb s (l + 1))) (not (eqb s 0)))
-  state_over h = sym (rw (le-ltb s 16 (omega arith)) refl)
-
-  module _ (h : s ≤ 15) where
-    pub state_new : a ≡ false → not (eqb s 0) ≡ (not (ltb s 16) || cond a (not (eqb s (l + 1))) (not (eqb s 0)))
-    state_new e = sym (rw (lt-ltb s 16 (omega arith), e) refl)
-
-    pub state_other : a ≡ true → (x y : ℕ) → x ≡ s → y ≡ l → not (eqb x (y + 1)) ≡ (not (ltb s 16) || cond a (not (eqb s (l + 1))) (not (eqb s 0)))
-    state_other e x y p q = rw (p, q) (sym (rw (lt-ltb s 16 (omega arith), e) refl))
-
-pub ruleset state_kit = (state_over, state_new, state_other)
-
--- ---- the first line below the header
-
-module _ (fs : List (List ℕ)) (b p : ℕ) (g : b ≡ value_of (get_or fs 0 [])) where
-  pub first_bead : (b ≡ 1 → ⊥) → p ≡ place_at fs 0 → p ≡ disordered_at [] fs
-  unfolding disordered_at bead_wrong
-  first_bead n q = q ∙ sym (rw (sym g, ne_eqb b 1 n) refl)
-
-  module _ (e : b ≡ 1) (s : ℕ) (k : s ≡ value_of (get_or fs 2 [])) where
-    pub first_state : (s ≡ 0 → ⊥) → p ≡ place_at fs 2 → p ≡ disordered_at [] fs
-    unfolding disordered_at bead_wrong state_wrong
-    first_state n q = q ∙ sym (rw (sym g, eq-eqb b 1 e, sym k, ne_eqb s 0 n) refl)
-
-    pub first_final : s ≡ 0 → p ≡ place_at fs 3 → p ≡ disordered_at [] fs
-    unfolding disordered_at bead_wrong state_wrong
-    first_final f q = q ∙ sym (rw (sym g, eq-eqb b 1 e, sym k, eq-eqb s 0 f) refl)
-
-pub ruleset first_kit = (first_bead, first_state, first_final)
-
--- ---- a line after another
-
-module _ (fs gs : List (List ℕ)) (b l p : ℕ) (g : b ≡ value_of (get_or fs 0 [])) (k : l ≡ value_of (get_or gs 0 []))
-    (t : Bool) (w : t ≡ (ltb 8 b || not (eqb b l || eqb b (l + 1)))) where
-  wrong_bead : bead_wrong (row_of gs ∷ []) (row_of fs) ≡ t
+module _ (s : Said) (o : Option Said) where
+  pub bead_first : o ≡ None → not (eqb s.bead 1) ≡ bead_wrong (rows_said o) (row_said s)
   unfolding bead_wrong
-  wrong_bead = rw (sym g, sym k) (sym w)
+  bead_first e = sym (rw e refl)
 
-  pub next_bead : t ≡ true → p ≡ place_at fs 0 → p ≡ disordered_at (row_of gs ∷ []) fs
-  unfolding disordered_at
-  next_bead e q = q ∙ sym (rw (wrong_bead ∙ e) refl)
+  pub state_first : o ≡ None → not (eqb s.state 0) ≡ state_wrong (rows_said o) (row_said s)
+  unfolding state_wrong
+  state_first e = sym (rw e refl)
 
-  module _ (e : t ≡ false) (s m : ℕ) (h : s ≡ value_of (get_or fs 2 [])) (n : m ≡ value_of (get_or gs 2 []))
-      (u : Bool) (v : u ≡ (not (ltb s 16) || cond (eqb b l) (not (eqb s (m + 1))) (not (eqb s 0)))) where
-    wrong_state : state_wrong (row_of gs ∷ []) (row_of fs) ≡ u
-    unfolding state_wrong
-    wrong_state = rw (sym g, sym k, sym h, sym n) (sym v)
+  module _ (l : Said) (e : o ≡ Some l) (x : ℕ) where
+    module _ (is : x ≡ s.bead) where
+      pub bead_over : 8 < x → ltb 8 x ≡ bead_wrong (rows_said o) (row_said s)
+      unfolding bead_wrong
+      bead_over h = lt-ltb 8 x h ∙ sym (rw (e, sym is, lt-ltb 8 x h) refl)
 
-    pub next_state : u ≡ true → p ≡ place_at fs 2 → p ≡ disordered_at (row_of gs ∷ []) fs
+      pub bead_again : x ≤ 8 → s.bead ≡ l.bead → not (eqb s.bead l.bead) ≡ bead_wrong (rows_said o) (row_said s)
+      unfolding bead_wrong
+      bead_again h n = ap not (eq-eqb s.bead l.bead n) ∙ sym (rw (e, le-ltb 8 s.bead (omega arith), eq-eqb s.bead l.bead n) refl)
+
+      pub bead_other : x ≤ 8 → (s.bead ≡ l.bead → ⊥) → (y z : ℕ) → y ≡ s.bead → z ≡ l.bead → not (eqb y (z + 1)) ≡ bead_wrong (rows_said o) (row_said s)
+      unfolding bead_wrong
+      bead_other h n y z p q = rw (p, q) (sym (rw (e, le-ltb 8 s.bead (omega arith), ne_eqb s.bead l.bead n) refl))
+
+    module _ (is : x ≡ s.state) where
+      pub state_over : 16 ≤ x → leb 16 x ≡ state_wrong (rows_said o) (row_said s)
+      unfolding state_wrong
+      state_over h = le-leb 16 x h ∙ sym (rw (e, le-ltb s.state 16 (omega arith)) refl)
+
+      pub state_next : x < 16 → s.bead ≡ l.bead → (y z : ℕ) → y ≡ s.state → z ≡ l.state → not (eqb y (z + 1)) ≡ state_wrong (rows_said o) (row_said s)
+      unfolding state_wrong
+      state_next h again y z p q = rw (p, q) (sym (rw (e, lt-ltb s.state 16 (omega arith), eq-eqb s.bead l.bead again) refl))
+
+      pub state_new : x < 16 → (s.bead ≡ l.bead → ⊥) → not (eqb s.state 0) ≡ state_wrong (rows_said o) (row_said s)
+      unfolding state_wrong
+      state_new h n = sym (rw (e, lt-ltb s.state 16 (omega arith), ne_eqb s.bead l.bead n) refl)
+
+pub ruleset bead_kit = (bead_first, bead_over, bead_again, bead_other)
+
+pub ruleset state_kit = (state_first, state_over, state_next, state_new)
+
+-- ---- what a line says, for its row
+
+module _ (fs : List (List ℕ)) (s : Said) (b : s.bead ≡ (row_of fs).bead) (k : s.state ≡ (row_of fs).state) where
+  row_bead : (o : Option Said) → bead_wrong (rows_said o) (row_of fs) ≡ bead_wrong (rows_said o) (row_said s)
+  unfolding bead_wrong
+  row_bead None = rw (sym b) refl
+  row_bead (Some l) = rw (sym b) refl
+
+  row_state : (o : Option Said) → state_wrong (rows_said o) (row_of fs) ≡ state_wrong (rows_said o) (row_said s)
+  unfolding state_wrong
+  row_state None = rw (sym k) refl
+  row_state (Some l) = rw (sym b, sym k) refl
+
+  module _ (o : Option Said) (t : Bool) (w : t ≡ bead_wrong (rows_said o) (row_said s)) (p : Option ℕ) where
+    pub at_bead : t ≡ true → p ≡ as_place (place_at fs 0) → p ≡ as_place (disordered_at (rows_said o) fs)
     unfolding disordered_at
-    next_state f q = q ∙ sym (rw (wrong_bead ∙ e, wrong_state ∙ f) refl)
+    at_bead e q = q ∙ sym (rw (row_bead o ∙ sym w ∙ e) refl)
 
-    pub next_final : u ≡ false → p ≡ place_at fs 3 → p ≡ disordered_at (row_of gs ∷ []) fs
-    unfolding disordered_at
-    next_final f q = q ∙ sym (rw (wrong_bead ∙ e, wrong_state ∙ f) refl)
+    module _ (e : t ≡ false) (u : Bool) (v : u ≡ state_wrong (rows_said o) (row_said s)) where
+      pub at_state : u ≡ true → p ≡ as_place (place_at fs 2) → p ≡ as_place (disordered_at (rows_said o) fs)
+      unfolding disordered_at
+      at_state f q = q ∙ sym (rw (row_bead o ∙ sym w ∙ e, row_state o ∙ sym v ∙ f) refl)
 
-pub ruleset next_kit = (next_bead, next_state, next_final)
+      pub at_final : u ≡ false → p ≡ as_place (place_at fs 3) → p ≡ as_place (disordered_at (rows_said o) fs)
+      unfolding disordered_at
+      at_final f q = q ∙ sym (rw (row_bead o ∙ sym w ∙ e, row_state o ∙ sym v ∙ f) refl)
+
+  -- It stands for the row before.
+  pub said_row : (gs : List (List ℕ)) → disordered_at (rows_said (Some s)) gs ≡ disordered_at (row_of fs ∷ []) gs
+  unfolding disordered_at bead_wrong state_wrong
+  said_row gs = rw (b, k) refl
+
+pub ruleset place_kit = (at_bead, at_state, at_final)

@@ -38,7 +38,7 @@ impl<'a> Found<'a> {
         }
     }
 
-    // Writes the row of a step into the ten numbers that are lent.
+    // Writes the row of a step into the ten numbers that are lent. By index, which is a pivot's number: `row[1..].iter_mut().enumerate()` is as long.
     #[tactic(auto, using(crate::proofs::RowLaws::row_kit))]
     fn write_row(&self, row: &mut [u16], step: usize)
         requires { (length row.old ≡ 10) × (step < 1024) }
@@ -47,12 +47,12 @@ impl<'a> Found<'a> {
         let prefixes = self.prefixes[step];
         let whole = is_whole(self.beads, prefixes);
         row[0] = prefixes;
-        for k in 0..9 {
+        for k in 0..=layout::MOST_BEADS {
             row[k + 1] = self.pivot_or_zero(whole, k, step);
         }
     }
 
-    // Writes the rows of all steps.
+    // Writes the rows of all steps. By index: over `chunks_exact_mut` the proof did not close, since its invariant cannot name what is written.
     #[tactic(auto, using(crate::proofs::RowLaws::rows_kit))]
     pub fn write_rows(&self, res: &mut [u16])
         requires { 10 * self.now.steps ≤ length res.old }
@@ -65,7 +65,7 @@ impl<'a> Found<'a> {
     }
 }
 
-// Counts the steps below n at which the whole pattern holds.
+// Counts the steps below n at which the whole pattern holds. No method of `Found`: that would ask for the pivots too, which are nothing to it.
 pub fn count_whole(beads: u16, n: usize, prefixes: &[u16]) -> u16
     requires { (1 ≤ beads) × (beads ≤ 8) × (n ≤ 1024) × (1024 ≤ length prefixes.now) }
     ensures { result ≡ whole_from beads prefixes.now n }

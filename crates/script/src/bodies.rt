@@ -1,5 +1,5 @@
 // The bodies of repetitions.
-use crate::items::{Item, Repeat, read_item};
+use crate::items::{Item, Items, Repeat};
 use std::io;
 use std::io::Write;
 
@@ -16,10 +16,8 @@ pub fn put_repeat(text: &mut Vec<u8>, repeat: Repeat<'_>, most: usize) -> io::Re
 
 // Appends the body at this index.
 fn put_body(text: &mut Vec<u8>, body: &[u8], index: u64) -> io::Result<()> {
-    let mut rest = body;
-    while let Some((item, after)) = read_item(rest) {
+    for item in Items(body) {
         put_item(text, item, index)?;
-        rest = after;
     }
     Ok(())
 }

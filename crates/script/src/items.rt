@@ -1,8 +1,42 @@
 // What a script begins with, and what follows it: a repetition, a byte that stands for itself, an
 // escape for one byte, or, in a body, an index plus or less a number.
+ghost use Rattle.std.specs.Iterator.{at_most};
 ghost use Rattle.std.specs.Prelude.{◌<◌, ◌≤◌, length, IfSome};
 
 use trial::number;
+
+// What a script repeats, or one byte.
+#[derive(Clone, Copy)]
+pub enum Part<'a> {
+    Repeat(Repeat<'a>),
+    Byte(u8),
+}
+
+// The parts of a script, each of a byte or more.
+#[derive(Drop)]
+pub struct Parts<'a>(pub &'a [u8]);
+
+impl<'a> Iterator for Parts<'a> {
+    type Item = Part<'a>;
+
+    ghost remaining = { λ s. at_most (length s.0.now) };
+
+    fn next(&mut self) -> Option<Part<'a>> {
+        let (part, rest) = read_part(self.0)?;
+        self.0 = rest;
+        Some(part)
+    }
+}
+
+fn read_part(script: &[u8]) -> Option<(Part<'_>, &[u8])>
+    ensures { IfSome result (λ r. length r.1.now < length script.now) }
+{
+    if let Some((repeat, after)) = read_repeat(script) {
+        return Some((Part::Repeat(repeat), after));
+    }
+    let (byte, after) = read_byte(script)?;
+    Some((Part::Byte(byte), after))
+}
 
 // An item of a body.
 #[derive(Clone, Copy)]
@@ -18,25 +52,36 @@ pub struct Repeat<'a> {
     pub body: &'a [u8],
 }
 
-pub fn read_repeat(script: &[u8]) -> Option<(Repeat<'_>, &[u8])>
+fn read_repeat(script: &[u8]) -> Option<(Repeat<'_>, &[u8])>
     ensures { IfSome result (λ r. length r.1.now < length script.now) }
 {
-    let [b'\\', b'*', rest @ ..] = script else {
-        return None;
-    };
-    let [b'0'..=b'9', ..] = rest else {
+    let rest @ [b'0'..=b'9', ..] = script.strip_prefix(br"\*")? else {
         return None;
     };
     let (times, rest) = read_number(rest);
-    let [b'{', rest @ ..] = rest else {
-        return None;
-    };
+    let rest = rest.strip_prefix(b"{")?;
     let end = rest.iter().position(|b| *b == b'}')?;
     let (body, after) = rest.split_at(end);
     Some((Repeat { times, body }, &after[1..]))
 }
 
-pub fn read_item(body: &[u8]) -> Option<(Item, &[u8])>
+// The items of a body, each of a byte or more.
+#[derive(Drop)]
+pub struct Items<'a>(pub &'a [u8]);
+
+impl<'a> Iterator for Items<'a> {
+    type Item = Item;
+
+    ghost remaining = { λ s. at_most (length s.0.now) };
+
+    fn next(&mut self) -> Option<Item> {
+        let (item, rest) = read_item(self.0)?;
+        self.0 = rest;
+        Some(item)
+    }
+}
+
+fn read_item(body: &[u8]) -> Option<(Item, &[u8])>
     ensures { IfSome result (λ r. length r.1.now < length body.now) }
 {
     match body {
@@ -65,16 +110,13 @@ fn read_number(script: &[u8]) -> (u64, &[u8])
 }
 
 // A byte, or the one that an escape stands for.
-pub fn read_byte(script: &[u8]) -> Option<(u8, &[u8])>
+fn read_byte(script: &[u8]) -> Option<(u8, &[u8])>
     ensures { IfSome result (λ r. length r.1.now < length script.now) }
 {
-    if let Some(read) = read_escape(script) {
-        return Some(read);
-    }
-    match script {
-        [byte, after @ ..] => Some((*byte, after)),
-        [] => None,
-    }
+    read_escape(script).or_else(|| {
+        let (byte, after) = script.split_first()?;
+        Some((*byte, after))
+    })
 }
 
 fn read_escape(script: &[u8]) -> Option<(u8, &[u8])>

@@ -9,7 +9,7 @@
 
 ghost use Rattle.std.specs.Prelude.{◌≤◌, IfOk, vec_len};
 
-use items::{read_byte, read_repeat};
+use items::{Part, Parts};
 use std::alloc::Global;
 use std::rt::Files;
 use std::{fs, io};
@@ -39,16 +39,13 @@ pub fn expand(alloc: Global, script: &str, most: usize) -> io::Result<Vec<u8>>
     ensures { IfOk result (λ text. vec_len text ≤ most) }
 {
     let mut text = Vec::new(alloc);
-    let mut rest = script.as_bytes();
-    while text.len() < most {
-        if let Some((repeat, after)) = read_repeat(rest) {
-            bodies::put_repeat(&mut text, repeat, most)?;
-            rest = after;
-        } else if let Some((byte, after)) = read_byte(rest) {
-            text.push(byte)?;
-            rest = after;
-        } else {
+    for part in Parts(script.as_bytes()) {
+        if text.len() >= most {
             break;
+        }
+        match part {
+            Part::Repeat(repeat) => bodies::put_repeat(&mut text, repeat, most)?,
+            Part::Byte(byte) => text.push(byte)?,
         }
     }
     text.truncate(most);

@@ -5,7 +5,7 @@ use mathlib.Core.Bool.{Bool, true, false, cond, not, ◌&&◌}
 use mathlib.Core.List.{List}
 use native.Mathlib.Decide.{ℕ_discrete, dec_lt}
 use native.Mathlib.Omega.{arith}
-use borrow.Author.Tests.{ne_eqb, eq-eqb}
+use borrow.Author.Tests.{ne_eqb}
 use lib.Dec.{T, eqb, ltb, leb, leb→le, ltb→lt, le→leb, lt→ltb}
 use lib.ListN.{get_or}
 use Rattle.lists.specs.Places.{at}
@@ -240,14 +240,14 @@ module _ (pattern log : List ℕ) (n k from : ℕ) (prefixes : List ℕ) (ask : 
         record { some = omega arith; inside = omega arith; served = λ v l. rw e (found_is v l) }
 
   module _ (lanes : Lanes) (each : ApartIf lanes from starts.to seeds) where
-    found_by : LanesFor pattern k lanes → FoundIn pattern log n k from starts.to found
+    pub found_by : LanesFor pattern k lanes → FoundIn pattern log n k from starts.to found
     found_by a = go (ℕ_discrete (at pattern (rule_at k)) 2)
       where
         go : Dec (at pattern (rule_at k) ≡ 2) → FoundIn pattern log n k from starts.to found
         go (yes e) = found_in_is (telling_apart (each.apart (a.all e))) starts.to refl
         go (no e) = found_in_is (telling_some e) starts.to refl
 
-    served_by : ServedIf lanes pattern log n k from starts.to seeds found
+    pub served_by : ServedIf lanes pattern log n k from starts.to seeds found
     served_by = record { each = λ e. served (each.apart e) starts.to refl }
 
 -- ---- how lanes are given
@@ -259,6 +259,12 @@ pub lanes_some : (pattern : List ℕ) (k : ℕ) → (at pattern (rule_at k) ≡ 
 lanes_some pattern k n = record { all = λ e. absurd (n e) }
 
 pub ruleset lanes_kit = (lanes_all, lanes_some)
+
+-- ---- where the starting steps end
+
+module _ (pattern log : List ℕ) (n k from : ℕ) (prefixes : List ℕ) (ask : Asked pattern log n k from prefixes) where
+  pub asked_until : (f : ℕ → Bool) (starts : Starts) (seeds : List ℕ) → StartsOf f from n starts seeds → starts.until ≤ steps_in log
+  asked_until f starts seeds of = let e = ask.steps_are in let a = of.inside in let b = of.end in omega arith
 
 -- ---- the pass that is made: of the bead at a place, over the steps of the log
 

@@ -1,4 +1,5 @@
 // Which candidates serve as the pivot before which steps: SOME and ALL are decided bead by bead, by a pass from the candidates.
+// Rooms are slices of at least so many numbers, as each contract says: an array, or a struct with the bound, would take fewer or be made anew at each call.
 #![tactic(auto)]
 
 ghost use Rattle.std.specs.Prelude.{◌≡◌, ◌<◌, ◌≤◌, length};
@@ -21,7 +22,7 @@ pub fn lanes_by_rule(pattern: &[u16], place: usize) -> Lanes
     requires { (place < most_beads) × (10 ≤ length pattern.now) }
     ensures { LanesFor pattern.now place result }
 {
-    if pattern[layout::RULES + place] == 2 {
+    if pattern[layout::RULES + place] == layout::ALL {
         Lanes::Own
     } else {
         Lanes::Shared
@@ -54,6 +55,7 @@ impl<'a> Course<'a> {
 
     // The next candidates from `from` on, and one pass from them: sixteen, if each has a lane of its own; else all that are left. Answers the
     // step after the last one looked at.
+    // Its rooms are lent one by one: what it finds stands in three of them.
     pub fn pass_from(
         &self,
         place: usize,
@@ -73,12 +75,14 @@ impl<'a> Course<'a> {
         let starts = starts::choose(prefixes, place, from, self.log.steps(), lanes, seeds);
         let pass = Pass {
             bead: self.bead(place),
-            log: self.log,
+            hopeful: self.hopes[place],
+            log: self.log.numbers,
+            last: self.last,
             seeds,
             first: starts.first,
             until: starts.until,
         };
-        passes::pass(&pass, self.hopes[place], self.last, work, found);
+        passes::pass(&pass, work, found);
         starts.to
     }
 }

@@ -1,12 +1,14 @@
 -- All numbers below n pass: what the test means, and what `all` over a range says of it.
 -- Assumes nothing.
 use Prim.Native.Nat.{ℕ, zero, suc, ◌+◌, ◌<◌}
-use mathlib.Core.Path.{◌≡◌, ◌∙◌, subst}
+use mathlib.Core.Path.{◌≡◌, sym, ◌∙◌, subst}
 use mathlib.Core.List.{List}
 use mathlib.Core.Logic.{◌⊎◌, inl, inr, ◌↔◌}
-use mathlib.Core.Bool.{Bool, true, false}
+use mathlib.Core.Bool.{Bool, true, false, not}
 use native.Mathlib.Nat.{add-zero, zero-add, eq-or-lt_of_le, not-suc-le-zero}
+use native.Mathlib.Numerals.{add-one}
 use native.Mathlib.Omega.{arith}
+use borrow.Author.Tests.{not-true, not-false}
 use lib.Dec.{T}
 use denote.Param.Members.{Mut}
 use Rattle.std.proofs.Common.{Option}
@@ -17,7 +19,7 @@ use Rattle.std.specs.Iterator.{YieldsThen}
 use Rattle.std.specs.List.{FoldsTo, list_all, range_with_len}
 use Rattle.std.specs.Option.{MatchOption}
 use Rattle.sets.specs.Sets.{all_below}
-use Rattle.sets.proofs.Truth.{same, and_i, and_l, and_r}
+use Rattle.sets.proofs.Truth.{same, and_i, and_l, and_r, no_false, false_no}
 
 pub all_out : (n : ℕ) (f : ℕ → Bool) → T (all_below n f) → (i : ℕ) → i < n → T (f i)
 unfolding all_below
@@ -35,6 +37,14 @@ all_in (suc n) f h = and_i (all_below n f) (f n) (all_in n f (λ i l. h i (omega
 
 pub all_below_iff : (n : ℕ) (f : ℕ → Bool) → T (all_below n f) ↔ ((i : ℕ) → i < n → T (f i))
 all_below_iff n f = (all_out n f, all_in n f)
+
+-- One number after the other, where the code tests for a denial; r is the answer for the number i.
+pub all_more : (i : ℕ) (f : ℕ → Bool) (r : Bool) → all_below i f ≡ true → r ≡ f i → not r ≡ false → all_below (i + 1) f ≡ true
+unfolding all_below
+all_more i f r e answer y = rw (add-one i, e, sym answer) (not-false r y)
+
+pub all_fails : (n i : ℕ) (f : ℕ → Bool) (r : Bool) → i < n → r ≡ f i → not r ≡ true → false ≡ all_below n f
+all_fails n i f r h answer z = sym (no_false (all_below n f) (λ t. false_no (f i) (sym answer ∙ not-true r z) (all_out n f t i h)))
 
 -- ---- `(a..a + n).all(..)`
 

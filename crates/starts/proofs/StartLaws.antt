@@ -1,5 +1,5 @@
 -- Starting steps, step by step.
-use Prim.Native.Nat.{ℕ, ◌+◌, ◌≤◌, ◌<◌}
+use Prim.Native.Nat.{ℕ, ◌+◌, ◌≤◌, ◌<◌, min}
 use mathlib.Core.Path.{◌≡◌, refl, sym, ap, ◌∙◌, subst}
 use mathlib.Core.Logic.{◌⊎◌, inl, inr}
 use mathlib.Core.Bool.{Bool, true, false, cond}
@@ -9,25 +9,29 @@ use native.Mathlib.Omega.{arith}
 use lib.Dec.{T, eqb→eq, eqb_refl}
 use lib.ListN.{length, get_or, set}
 use lib.Seq.{get_or-set_same, get_or-set_other}
+use Rattle.std.proofs.lemmas.List.{length-set}
 use Rattle.sets.specs.Sets.{member, singleton}
 use Rattle.sets.proofs.Truth.{yes_true, true_yes, false_no}
 use Rattle.sets.proofs.Bits.{member_empty}
 use Rattle.sets.proofs.Laws.{member-singleton}
-use Rattle.starts.specs.Starts.{Seeded, StartsOf, Looked, Extended}
-use Rattle.starts.specs.declared.Starts.{Starts}
+use Rattle.starts.specs.Starts.{Seeded, StartsOf, Looked}
 
 -- ---- one step
 
-pub given : (u lane x : ℕ) (l : List ℕ) → x ≡ singleton lane → set l u x ≡ set l u (cond true (singleton lane) 0)
-given u lane x l e = ap (set l u) e
+pub give_yes : (u lane x : ℕ) (b : Bool) (l : List ℕ) → x ≡ singleton lane → b ≡ true → set l u x ≡ set l u (cond b (singleton lane) 0)
+give_yes u lane x b l e y = rw (y, e) refl
 
-pub tested : (b f c : Bool) → b ≡ f → b ≡ c → c ≡ f
-tested b f c e t = sym t ∙ e
+pub give_no : (u lane : ℕ) (b : Bool) (l : List ℕ) → b ≡ false → set l u 0 ≡ set l u (cond b (singleton lane) 0)
+give_no u lane b l n = rw n refl
 
-pub ruleset give_kit = (given, tested)
+pub ruleset give_kit = (give_yes, give_no)
 
 below_next : (w u : ℕ) → w < u + 1 → (w ≡ u → ⊥) → w < u
 below_next w u h n = omega arith
+
+-- a place of a room, by the room after it was written
+pub written : (old new : List ℕ) (u x : ℕ) → u < 1024 → 1024 ≤ length new → new ≡ set old u x → u < length old
+written old new u x h l e = omega (arith, ap length e, length-set old u x)
 
 -- The step w has the lane i: it is the step looked at and has been given the lane, or it had it before.
 abbrev pub Has : (u lane : ℕ) (b : Bool) (old : List ℕ) (i w : ℕ) → Type 0
@@ -53,51 +57,58 @@ module _ (u lane : ℕ) (b : Bool) (old new : List ℕ) (inside : u < length old
 
 -- ---- one more step
 
-module _ (f : ℕ → Bool) (from lane : ℕ) (b : Bool) (starts next : Starts) (old new : List ℕ) (d : Looked f from starts old) (free : lane < 16)
-    (inside : starts.to < 1024) (long : 1024 ≤ length old) (test : b ≡ f starts.to) (e : new ≡ set old starts.to (cond b (singleton lane) 0))
-    (x : Extended from b starts next) where
-  here : starts.to < length old
-  here = omega arith
+module _ (f : ℕ → Bool) (from first until u lane : ℕ) (b : Bool) (old new : List ℕ) (d : Looked f from first until u old) (up : from ≤ u) (free : lane < 16)
+    (inside : u < 1024) (long : 1024 ≤ length new) (test : b ≡ f u) (e : new ≡ set old u (cond b (singleton lane) 0)) where
+  here : u < length old
+  here = written old new u (cond b (singleton lane) 0) inside long e
 
-  which : (i u : ℕ) → u < next.to → T (member i (get_or new u 0)) → Has starts.to lane b old i u
-  which i u h m = let k = x.next in has starts.to lane b old new here e i u (omega arith) m
+  which : (i w : ℕ) → w < u + 1 → T (member i (get_or new w 0)) → Has u lane b old i w
+  which i w h m = has u lane b old new here e i w h m
 
-  seeded : Seeded f from next.to new
-  seeded = record { covers = λ u l h t. covers u l h t (ℕ_discrete u starts.to); only = λ i u l h m. only i u l (which i u h m) }
+  seeded : Seeded f from (u + 1) new
+  seeded = record { covers = λ w l h t. covers w l h t (ℕ_discrete w u); only = λ i w l h m. only i w l (which i w h m) }
     where
-      covers : (u : ℕ) → from ≤ u → u < next.to → T (f u) → Dec (u ≡ starts.to) → (i : ℕ) × (i < 16) × T (member i (get_or new u 0))
-      covers u l h t (yes z) =
-          let y : b ≡ true = test ∙ ap f (sym z) ∙ yes_true (f u) t in
-          let s : get_or new u 0 ≡ singleton lane = own_seed starts.to lane b old new here e u z ∙ ap (λ (c : Bool). cond c (singleton lane) 0) y in
+      covers : (w : ℕ) → from ≤ w → w < u + 1 → T (f w) → Dec (w ≡ u) → (i : ℕ) × (i < 16) × T (member i (get_or new w 0))
+      covers w l h t (yes z) =
+          let y : b ≡ true = test ∙ ap f (sym z) ∙ yes_true (f w) t in
+          let s : get_or new w 0 ≡ singleton lane = own_seed u lane b old new here e w z ∙ ap (λ (c : Bool). cond c (singleton lane) 0) y in
           (lane, free, subst (λ (k : ℕ). T (member lane k)) (sym s) (subst T (sym (member-singleton lane lane)) (eqb_refl lane)))
-      covers u l h t (no n) =
-          let k = x.next in
-          let r = d.seeded.covers u l (below_next u starts.to (omega arith) n) t in
-          (r.0, r.1, subst (λ (s : ℕ). T (member r.0 s)) (sym (other_seed starts.to lane b old new here e u n)) r.2)
+      covers w l h t (no n) =
+          let r = d.seeded.covers w l (below_next w u h n) t in
+          (r.0, r.1, subst (λ (s : ℕ). T (member r.0 s)) (sym (other_seed u lane b old new here e w n)) r.2)
 
-      only : (i u : ℕ) → from ≤ u → Has starts.to lane b old i u → T (f u)
-      only i u l (inl w) = true_yes (f u) (ap f w.0 ∙ sym test ∙ w.2)
-      only i u l (inr w) = d.seeded.only i u l w.0 w.1
+      only : (i w : ℕ) → from ≤ w → Has u lane b old i w → T (f w)
+      only i w l (inl p) = true_yes (f w) (ap f p.0 ∙ sym test ∙ p.2)
+      only i w l (inr p) = d.seeded.only i w l p.0 p.1
 
-  between : (i u : ℕ) → from ≤ u → Has starts.to lane b old i u → (next.first ≤ u) × (u < next.until)
-  between i u l (inl w) = let z = w.0 in let o = x.own w.2 in (omega arith, omega arith)
-  between i u l (inr w) = let o = d.between i u l w.0 w.1 in x.kept u l o.0 o.1
+  pub looked_yes : (next : ℕ) → next ≡ min first u → Looked f from next (u + 1) (u + 1) new
+  looked_yes next m = record { begin = let k = d.begin in omega arith; end = omega arith; seeded = seeded; between = λ i w l h t. between i w l (which i w h t) }
+    where
+      between : (i w : ℕ) → from ≤ w → Has u lane b old i w → (next ≤ w) × (w < u + 1)
+      between i w l (inl p) = let z = p.0 in (omega arith, omega arith)
+      between i w l (inr p) = let o = d.between i w l p.0 p.1 in let q = p.0 in (omega arith, omega arith)
 
-  pub looked_more : Looked f from next new
-  looked_more = record { begin = x.begin; low = x.low; end = x.end; seeded = seeded; between = λ i u l h m. between i u l (which i u h m) }
+  pub looked_no : b ≡ false → Looked f from first until (u + 1) new
+  looked_no n = record { begin = d.begin; end = let k = d.end in omega arith; seeded = seeded; between = λ i w l h t. between i w l (which i w h t) }
+    where
+      between : (i w : ℕ) → from ≤ w → Has u lane b old i w → (first ≤ w) × (w < until)
+      between i w l (inl p) = let z : true ≡ false = sym p.2 ∙ n in cc
+      between i w l (inr p) = d.between i w l p.0 p.1
 
 -- ---- the loop
 
-pub looked_none : (f : ℕ → Bool) (from : ℕ) (l : List ℕ) → Looked f from (record { first = from; until = from; to = from }) l
-looked_none f from l = record {
+pub looked_none : (f : ℕ → Bool) (from n : ℕ) (l : List ℕ) → from < n → Looked f from n from from l
+looked_none f from n l some = record {
   begin = omega arith;
-  low = omega arith;
   end = omega arith;
   seeded = record { covers = λ u h k t. absurd (omega arith); only = λ i u h k m. absurd (omega arith) };
   between = λ i u h k m. absurd (omega arith);
 }
 
-pub starts_end : (f : ℕ → Bool) (from n : ℕ) (starts : Starts) (l : List ℕ) → from < n → n ≤ starts.to → starts.to ≤ n → Looked f from starts l
-    → StartsOf f from n starts l
-starts_end f from n starts l some h k d =
-    record { some = omega arith; inside = k; begin = d.begin; end = d.end; seeded = d.seeded; between = d.between }
+pub starts_end : (f : ℕ → Bool) (from n first until u : ℕ) (l : List ℕ) → from < n → n ≤ u → u ≤ n → Looked f from first until u l
+    → StartsOf f from n (record { first = first; until = until; to = n }) l
+starts_end f from n first until u l some h k looked =
+    record { some = some; inside = omega arith; begin = d.begin; end = d.end; seeded = d.seeded; between = d.between }
+  where
+    d : Looked f from first until n l
+    d = let e : u ≡ n = omega arith in rw e at looked

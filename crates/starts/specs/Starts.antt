@@ -1,12 +1,12 @@
 -- The steps at which the passes for a bead start, and the lanes, of sixteen, that they are given.
-use Rattle.std.specs.Prelude.{ℕ, zero, suc, ◌+◌, ◌≤◌, ◌<◌, ◌≡◌, Bool, true, List, T, eqb, get_or}
+use Rattle.std.specs.Prelude.{ℕ, zero, suc, ◌+◌, ◌≤◌, ◌<◌, ◌≡◌, Bool, List, T, eqb, get_or}
 use Rattle.sets.specs.Sets.{member}
 use Rattle.necklace.specs.Dag.{Dag}
 use Rattle.necklace.specs.Necklace.{Pattern}
 use Rattle.necklace.specs.Compute.{holds?}
 use Rattle.starts.specs.declared.Starts.{Starts}
 use Rattle.starts.specs.declared.Lanes.{Lanes}
-use Rattle.starts.specs.declared.Lanes.TheVariants.{Own}
+use Rattle.starts.specs.declared.Lanes.TheVariants.{Shared, Own}
 
 -- Do the first k beads hold at u, by the marks? The first none hold at vertex 0 alone.
 unfoldable pub prefix_at : List ℕ → ℕ → ℕ → Bool
@@ -35,22 +35,17 @@ pub record StartsOf (f : ℕ → Bool) (from n : ℕ) (starts : Starts) (seeds :
   pub seeded : Seeded f from starts.to seeds
   pub between : (i u : ℕ) → from ≤ u → u < starts.to → T (member i (get_or seeds u 0)) → (starts.first ≤ u) × (u < starts.until)
 
--- The same of the steps looked at so far, of which there may be none.
-pub record Looked (f : ℕ → Bool) (from : ℕ) (starts : Starts) (seeds : List ℕ) : Type 0 where
-  pub begin : from ≤ starts.first
-  pub low : starts.first ≤ starts.to
-  pub end : starts.until ≤ starts.to
-  pub seeded : Seeded f from starts.to seeds
-  pub between : (i u : ℕ) → from ≤ u → u < starts.to → T (member i (get_or seeds u 0)) → (starts.first ≤ u) × (u < starts.until)
+-- The same of the steps from `from` on and below u, which have been looked at: there may be none.
+pub record Looked (f : ℕ → Bool) (from first until u : ℕ) (seeds : List ℕ) : Type 0 where
+  pub begin : from ≤ first
+  pub end : until ≤ u
+  pub seeded : Seeded f from u seeds
+  pub between : (i w : ℕ) → from ≤ w → w < u → T (member i (get_or seeds w 0)) → (first ≤ w) × (w < until)
 
--- One step more has been looked at: it lies between the new bounds if it is chosen, and what lay between the old ones does too.
-pub record Extended (from : ℕ) (chosen : Bool) (old new : Starts) : Type 0 where
-  pub next : new.to ≡ old.to + 1
-  pub begin : from ≤ new.first
-  pub low : new.first ≤ new.to
-  pub end : new.until ≤ new.to
-  pub own : chosen ≡ true → (new.first ≤ old.to) × (old.to < new.until)
-  pub kept : (u : ℕ) → from ≤ u → old.first ≤ u → u < old.until → (new.first ≤ u) × (u < new.until)
+-- The lane of the next starting step.
+unfoldable pub lane_after : Lanes → ℕ → ℕ
+lane_after Shared lane = lane
+lane_after Own lane = lane + 1
 
 -- No two share a lane, where each has its own.
 pub record ApartIf (lanes : Lanes) (from to : ℕ) (seeds : List ℕ) : Type 0 where

@@ -3,3 +3,4 @@ pub mod Spelled
 pub mod LineLaws
 pub mod WalkLaws
 pub mod FirstBadLaws
+pub mod FaultLaws

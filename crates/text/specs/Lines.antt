@@ -48,6 +48,11 @@ first_line text = head_line (split 10 text)
 abbrev pub line_of : ℕ → List ℕ → Result ℕ LineFault
 line_of most text = answer_of most (first_line text)
 
+-- The same, where whatever is wrong with a line comes to one refusal.
+abbrev pub whole_or : {R : Type 0} → R → Result ℕ LineFault → Result ℕ R
+whole_or otherwise (Ok n) = Ok n
+whole_or otherwise (Err f) = Err otherwise
+
 -- A line is whole: at most so many bytes before its newline, a newline, and only bytes 32 to 126.
 abbrev pub whole : ℕ → TextLine → Bool
 whole most l = leb (length l.bytes) most && (l.newline && printable l.bytes)

@@ -1,5 +1,6 @@
 // From bytes to lines, for a text of any length.
-// Every function takes the bytes it speaks of as a slice, asks nothing of its caller, and answers by a definition on lists of bytes.
+// Every function asks nothing of its caller, and answers by a definition; those of lines take the bytes that they speak of as a slice.
 #![tactic(auto)]
 
+pub mod faults;
 pub mod lines;

@@ -1,6 +1,6 @@
 // The first line of what is left of a text.
 ghost use Rattle.std.specs.Prelude.{◌≡◌};
-ghost use Rattle.text.specs.Lines.{ended, printable, line_of};
+ghost use Rattle.text.specs.Lines.{ended, printable_byte, printable, line_of, whole_or};
 
 // What is wrong with a line, before its fields are looked at.
 #[derive(Clone, Copy, PartialEq, Eq, Debug)]
@@ -29,12 +29,19 @@ pub fn find_end(text: &[u8], most: usize) -> Result<usize, LineFault>
     Err(LineFault::Unended)
 }
 
-// Are all bytes 32 to 126?
+// Is it a byte that a line may have?
+pub fn is_printable(b: u8) -> bool
+    ensures { result ≡ printable_byte b }
+{
+    (32..=126).contains(&b)
+}
+
+// Are all bytes such?
 #[tactic(auto, unfolding(crate::specs::Lines::printable))]
 pub fn printable(bytes: &[u8]) -> bool
     ensures { result ≡ printable bytes.now }
 {
-    bytes.iter().all(|b| (32..=126).contains(b))
+    bytes.iter().all(|b| is_printable(*b))
 }
 
 // The answer for a first line that has some fault: how it ends, then its bytes.
@@ -60,7 +67,7 @@ pub fn read_line(text: &[u8], most: usize) -> Result<usize, LineFault>
         if b == b'\n' {
             return Ok(i);
         }
-        if b < 32 || b > 126 {
+        if !is_printable(b) {
             return read_faulty(text, most);
         }
         if i >= most {
@@ -68,4 +75,11 @@ pub fn read_line(text: &[u8], most: usize) -> Result<usize, LineFault>
         }
     }
     Err(LineFault::Unended)
+}
+
+// How many bytes the first line has, where it is whole; else this refusal, whatever is wrong with it.
+pub fn whole_line<R: Copy>(text: &[u8], most: usize, otherwise: R) -> Result<usize, R>
+    ensures { result ≡ whole_or otherwise (line_of most text.now) }
+{
+    read_line(text, most).or(Err(otherwise))
 }

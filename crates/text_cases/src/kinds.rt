@@ -1,7 +1,9 @@
 // The kinds of cases.
 use std::fmt;
+use std::str::FromStr;
 
-#[derive(Clone, Copy, PartialEq)]
+// In the order of the last lines.
+#[derive(Clone, Copy, PartialEq, Eq, PartialOrd, Ord)]
 pub enum Kind {
     Number,
     Line,
@@ -11,17 +13,22 @@ pub enum Kind {
     Equal,
 }
 
-impl Kind {
-    // The kind that a word of `cases.txt` names.
-    pub fn named(word: &str) -> Option<Kind> {
+#[derive(Clone, Copy)]
+pub struct NoSuchKind;
+
+// The kind that a word of `cases.txt` names.
+impl FromStr for Kind {
+    type Err = NoSuchKind;
+
+    fn from_str(word: &str) -> Result<Kind, NoSuchKind> {
         match word {
-            "number" => Some(Kind::Number),
-            "line" => Some(Kind::Line),
-            "spaces" => Some(Kind::Spaces),
-            "commas" => Some(Kind::Commas),
-            "missing" => Some(Kind::Missing),
-            "equal" => Some(Kind::Equal),
-            _ => None,
+            "number" => Ok(Kind::Number),
+            "line" => Ok(Kind::Line),
+            "spaces" => Ok(Kind::Spaces),
+            "commas" => Ok(Kind::Commas),
+            "missing" => Ok(Kind::Missing),
+            "equal" => Ok(Kind::Equal),
+            _ => Err(NoSuchKind),
         }
     }
 }

@@ -1,4 +1,4 @@
-// What each function of `text` and `numbers` answers, in words.
+// What a function of `text`, `fields` or `numbers` answers, in words.
 use std::io;
 use text::lines::LineFault;
 
@@ -38,6 +38,7 @@ pub fn place(rt: &impl Print, line: &[u8], separator: u8, index: usize) -> io::R
     }
 }
 
+// The readers compare fields with `==` of slices: every byte counts, and so does the length.
 pub fn equal(rt: &impl Print, a: &[u8], b: &[u8]) -> io::Result<()> {
     if a == b {
         print!(rt; "the same")

@@ -12,7 +12,7 @@ struct Spot {
 }
 
 impl Change {
-    // Is this what a reader has to answer for the changed text? Answers have no `==`: they are compared by their codes.
+    // Is this what a reader has to answer for the changed text?
     pub fn is_expected(self, a: Answer, of: Text, text: &[u8]) -> bool {
         a == self.expected(of, text)
     }
@@ -35,6 +35,7 @@ impl Change {
     }
 }
 
+// Document 01's numbers, said apart from the readers: so not by their `Refusal`.
 fn number_of(of: Text, kind: Kind) -> u16 {
     match (of, kind) {
         (Text::Pattern, Kind::UpperCase | Kind::SpaceInHeader) => 12,

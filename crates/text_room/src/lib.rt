@@ -5,5 +5,5 @@
 mod cases;
 mod kinds;
 
-pub use cases::{Case, Writer, try_writer};
+pub use cases::{Case, Writer, try_files, try_writer};
 pub use kinds::{Kind, Kinds};

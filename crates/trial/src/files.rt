@@ -1,32 +1,22 @@
 // Files of cases: a case a line, its columns parted by tabs.
-ghost use Rattle.std.specs.Prelude.{◌≤◌, ◌<◌, max, length};
+ghost use Rattle.std.specs.Prelude.{◌≤◌, ◌<◌, max};
 
-use std::fs::File;
-use std::io::Read;
 use std::rt::Files;
+use std::{fs, io};
 
-// The start of the file, as much as the buffer holds; nothing where it cannot be opened.
-pub fn load(rt: &impl Files, path: &str, buf: &mut [u8]) -> usize
-    ensures { result ≤ length buf.new }
+// Hands on the lines of a file one after the other, up to the first error.
+pub fn each_line<F: FnMut(&str) -> io::Result<()>>(
+    rt: &(impl Files + AllocGlobal),
+    path: &str,
+    mut visit: F,
+) -> io::Result<()>
+    requires pre { (f : _) (x : _) → F.pre f x }
 {
-    match File::open(rt, path) {
-        Ok(mut file) => read_front(&mut file, buf),
-        Err(_) => 0,
+    let file = fs::read_to_string(rt, path)?;
+    for line in file.lines() {
+        visit(line)?;
     }
-}
-
-// Reads until the buffer is full, the file ends or a read fails. A read may give less than there is, so no `for` counts them.
-fn read_front(file: &mut impl Read, buf: &mut [u8]) -> usize
-    ensures { result ≤ length buf.new }
-{
-    let mut done = 0;
-    while done < buf.len() {
-        match file.read(&mut buf[done..]) {
-            Ok(0) | Err(_) => return done,
-            Ok(n) => done += n,
-        }
-    }
-    done
+    Ok(())
 }
 
 // The elements from an index up to another, neither past the end; none where they are not in order.
@@ -45,25 +35,22 @@ pub fn column(line: &str, index: usize) -> &str {
     line.split('\t').nth(index).unwrap_or("")
 }
 
-// The number that the bytes spell, digit by digit; what is no digit counts as 0, and of a number
-// over 999999999 only the first nine digits count. A `for`, since of a `fold` the bound stayed open.
+// The number that the bytes spell, digit by digit; what is no digit counts as 0, and of a number over 999999999 only the first nine
+// digits count.
 pub fn number(digits: &[u8]) -> u64
     ensures { result < 1000000000 }
 {
-    let mut value = 0;
-    for b in digits {
-        value = with_digit(value, *b);
-    }
-    value
+    digits.iter().fold(0, |value, b| with_digit(value, *b))
 }
 
 fn with_digit(value: u64, b: u8) -> u64
     ensures { result ≤ max value 999999999 }
 {
     if value < 100000000 {
-        return value * 10 + digit(b);
+        value * 10 + digit(b)
+    } else {
+        value
     }
-    value
 }
 
 fn digit(b: u8) -> u64

@@ -10,11 +10,9 @@ pub struct Random {
 impl Random {
     // The seed's remainder, or 1 where that is 0.
     pub fn new(seed: u64) -> Random {
-        let state = seed % 2147483647;
-        if state == 0 {
-            return Random { state: 1 };
+        Random {
+            state: (seed % 2147483647).max(1),
         }
-        Random { state }
     }
 
     // The state's remainder is taken first, so that no product wraps.
@@ -28,10 +26,7 @@ impl Random {
     pub fn below(self, n: u64) -> u64
         ensures { result ≤ n - 1 }
     {
-        if n == 0 {
-            return 0;
-        }
-        self.state % n
+        self.state.checked_rem(n).unwrap_or(0)
     }
 
     // Goes on to the next number, and reduces it below n.

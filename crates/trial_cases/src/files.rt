@@ -1,12 +1,21 @@
 // Files and scripts read, and buffers marked.
+use crate::appended::append;
 use crate::{argument, show};
 use answer::Answer;
-use std::io;
 use std::rt::Files;
+use std::{fs, io};
 
-pub fn show_load(rt: &(impl Files + Print), what: &str, path: &str) -> io::Result<()> {
+// The start of the file, as much as there is room for; nothing where it cannot be read.
+pub fn show_load(
+    rt: &(impl Files + Print + AllocGlobal),
+    what: &str,
+    path: &str,
+) -> io::Result<()> {
     let mut buf = [b'.'; 8];
-    let n = trial::load(rt, path, &mut buf);
+    let n = match fs::read(rt, path) {
+        Ok(text) => append(&mut buf, 0, &text),
+        Err(_) => 0,
+    };
     show(rt, what, &buf, n)
 }
 
@@ -40,6 +49,6 @@ pub fn show_script(
 ) -> io::Result<()> {
     let text = script::expand(rt.alloc(), script, argument(room) as usize)?;
     let mut buf = [b'.'; 32];
-    let next = trial::append_bytes(&mut buf, 0, &text);
+    let next = append(&mut buf, 0, &text);
     show(rt, what, &buf, next)
 }

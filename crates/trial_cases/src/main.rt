@@ -1,11 +1,11 @@
-// Each function of `trial`, `outcome` and `script` at its edges, on the cases of `cases.txt`, a line a case.
+// Each function of `trial`, `outcome` and `script` at its edges, and texts put together in a buffer, on the cases of `cases.txt`, a line a case.
 //
 // A line of the file has its columns parted by tabs: what is tried, the kind, and what the kind takes. A kind that takes nothing is
 // a group of cases that share a buffer or a generator; its function has their names.
 #![tactic(auto)]
 
+use std::io;
 use std::rt::Files;
-use std::{fs, io};
 use trial::column;
 
 mod appended;
@@ -14,11 +14,7 @@ mod drawn;
 mod files;
 
 fn main(rt: HostRuntime) -> io::Result<()> {
-    let file = fs::read_to_string(&rt, "cases.txt")?;
-    for line in file.lines() {
-        try_case(&rt, line)?;
-    }
-    Ok(())
+    trial::each_line(&rt, "cases.txt", |line| try_case(&rt, line))
 }
 
 fn try_case(rt: &(impl Files + Print + AllocGlobal), line: &str) -> io::Result<()> {

@@ -12,14 +12,17 @@ use entering::Bead;
 use log_links::Log;
 
 // The lanes that entering a step with these labels brings on. For a state that no lane is in, nothing is looked up.
-fn enter_all(bead: Bead, labels: u16, here: &[u16; 16]) -> [u16; 16]
+fn enter_all(
+    bead: Bead,
+    labels: u16,
+    here: &[u16; layout::MOST_STATES],
+) -> [u16; layout::MOST_STATES]
     ensures { EnteredTo (automaton_of bead.entry.pattern.now bead.entry.place) (members 16 labels) 16 here.now result }
 {
-    let mut next = [0u16; 16];
-    for state in 0..16u16 {
-        let lanes = here[usize::from(state)];
+    let mut next = [0u16; layout::MOST_STATES];
+    for (state, &lanes) in here.iter().enumerate() {
         if lanes != 0 {
-            entering::spread(bead.enter(labels, state), lanes, &mut next);
+            entering::spread(bead.enter(labels, state as u16), lanes, &mut next);
         }
     }
     next
@@ -27,7 +30,13 @@ fn enter_all(bead: Bead, labels: u16, here: &[u16; 16]) -> [u16; 16]
 
 // The lanes that arrive at the step x. A step without labels leaves every lane in its state.
 #[tactic(auto, using(crate::proofs::TurnLaws::arriving_kit))]
-fn arriving(bead: Bead, log: Log, first: usize, x: usize, work: &[u16]) -> [u16; 16]
+fn arriving(
+    bead: Bead,
+    log: Log,
+    first: usize,
+    x: usize,
+    work: &[u16],
+) -> [u16; layout::MOST_STATES]
     requires { (x < steps_in log.numbers.now) × (work_length ≤ length work.now) }
     ensures { Arrived (log_of log.entry.numbers.now) (automaton_of bead.entry.pattern.now bead.entry.place) work.now first x result }
 {
@@ -38,7 +47,7 @@ fn arriving(bead: Bead, log: Log, first: usize, x: usize, work: &[u16]) -> [u16;
     enter_all(bead, log.labels(x), &here)
 }
 
-// The turn of the step x in the passes: the lanes that arrive, and those that begin there.
+// The turn of the step x in the passes: the lanes that arrive, and those that begin there. It asks less than a `Pass`, which has more than it needs.
 #[tactic(auto, using(crate::proofs::TurnLaws::turned))]
 pub fn turn(bead: Bead, log: Log, first: usize, x: usize, begin: u16, work: &mut [u16])
     requires { (x < steps_in log.numbers.now) × (work_length ≤ length work.old) }

@@ -4,6 +4,8 @@ use Prim.Native.Nat.{ℕ, ◌≤◌, ◌<◌}
 use mathlib.Core.Path.{◌≡◌, sym, subst}
 use mathlib.Core.List.{List}
 use native.Mathlib.Omega.{arith}
+use Rattle.std.specs.Prelude.{None}
+use Rattle.std.proofs.lemmas.Option.{none-some}
 use Rattle.log_buffer.specs.Meaning.{log_of, steps_in}
 use Rattle.pattern_buffer.specs.Meaning.{beads_in, pattern_of}
 use Rattle.prefix_phase.specs.Marked.{Tried}
@@ -11,7 +13,7 @@ use Rattle.prefix_phase.proofs.MarkLaws.{lies, beads_few}
 use Rattle.walk_places.specs.Walked.{Walked, WalkedBack}
 use Rattle.walk_places.proofs.WalkLaws.{walked_done}
 use Rattle.walk_turn.specs.declared.Turn.{Turn}
-use Rattle.walk_turn.specs.Turns.{Walking, Due}
+use Rattle.walk_turn.specs.Turns.{known_to, Walking, Due}
 
 module _ (pattern log : List ℕ) (t : Tried pattern log) (n : ℕ) (steps_are : n ≡ steps_in log) where
   begun_at : (beads : ℕ) (pivots : List ℕ) → beads ≡ beads_in pattern → Walked (log_of log) (pattern_of pattern) (steps_in log) (beads_in pattern) 0 0 0 pivots
@@ -23,7 +25,7 @@ module _ (pattern log : List ℕ) (t : Tried pattern log) (n : ℕ) (steps_are :
   -- nothing is looked at in the first turn
   pub walks_first : (beads : ℕ) (seeds found pivots : List ℕ) → beads ≡ beads_in pattern
       → Walked (log_of log) (pattern_of pattern) (steps_in log) (beads_in pattern) 0 0 0 pivots
-      → Walking pattern log n (record { left = beads; from = 0; to = 0; step = 0 }) seeds found pivots
+      → Walking pattern log n (record { left = beads; from = 0; to = None; step = 0 }) seeds found pivots
   unfolding pattern_of
   walks_first beads seeds found pivots e w = record {
     beads = omega arith;
@@ -37,8 +39,9 @@ module _ (pattern log : List ℕ) (t : Tried pattern log) (n : ℕ) (steps_are :
       up = omega arith;
       most = omega arith;
     };
-    more = λ l. absurd (omega arith);
-    served = λ l. absurd (omega arith);
+    first = λ e. omega arith;
+    more = λ t e. absurd (none-some _ e);
+    served = λ t e. absurd (none-some _ e);
     walked = begun_at beads pivots e w;
   }
     where
@@ -56,5 +59,5 @@ module _ (pattern log : List ℕ) (t : Tried pattern log) (n : ℕ) (steps_are :
   walks_done turn seeds found pivots w h =
       let z : turn.left ≡ 0 = omega arith in
       subst (λ (x : ℕ). WalkedBack (log_of log) (pattern_of pattern) x pivots) steps_are
-      (walked_done (log_of log) (pattern_of pattern) n turn.from turn.to turn.step pivots
-      (subst (λ (l : ℕ). Walked (log_of log) (pattern_of pattern) n l turn.from turn.to turn.step pivots) z w.walked))
+      (walked_done (log_of log) (pattern_of pattern) n turn.from (known_to turn) turn.step pivots
+      (subst (λ (l : ℕ). Walked (log_of log) (pattern_of pattern) n l turn.from (known_to turn) turn.step pivots) z w.walked))

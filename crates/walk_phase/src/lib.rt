@@ -1,4 +1,5 @@
 // The second phase: the walk back over the beads, for every step at which the whole pattern holds.
+// Rooms are slices of at least so many numbers, as each contract says: an array, or a struct with the bound, would take fewer or be made anew at each call.
 #![tactic(auto)]
 
 ghost use Rattle.std.specs.Prelude.{◌<◌, ◌≤◌, length};
@@ -31,7 +32,8 @@ fn pick(from: usize, to: usize, p: usize, seeds: &[u16], found: &[u16]) -> Optio
 }
 
 // The rest of a turn: of the candidates the smallest that serves is picked for the step aimed at and put down, and the next turn goes on after
-// that step. Where none is aimed at no step is left to look at.
+// that step. Where none is aimed at no step is left to look at. Its rooms are lent one by one, since it
+// changes one of them alone.
 fn settle(
     n: usize,
     turn: Turn,
@@ -72,7 +74,7 @@ fn walk_turns(
     let mut turn = Turn {
         left: walk.case.beads(),
         from: 0,
-        to: 0,
+        to: None,
         step: 0,
     };
     while 0 < turn.left {
@@ -89,7 +91,15 @@ pub fn walk_back(case: &Case, prefixes: &[u16], pivots: &mut [u16], work: &mut [
 {
     let mut seeds = [0u16; layout::MOST_STEPS];
     let mut found = [0u16; layout::MOST_STEPS];
-    walk_places::start_walk(case, prefixes, pivots);
+    let course = case.course;
+    walk_places::start_walk(
+        course.pattern,
+        course.log.numbers,
+        case.beads(),
+        case.steps(),
+        prefixes,
+        pivots,
+    );
     let walk = Walk {
         case: *case,
         prefixes,

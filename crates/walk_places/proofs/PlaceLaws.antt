@@ -49,7 +49,7 @@ module _ (pattern log : List ℕ) (t : Tried pattern log) where
   tried_steps n e = let f = (lies pattern log t).few in omega arith
 
 -- nothing is looked at yet
-walk_begun : (pattern log sets : List ℕ) (beads n : ℕ) (pivots : List ℕ) → Tried pattern log → Marks (log_of log) (pattern_of pattern) (steps_in log) sets
+pub walk_begun : (pattern log sets : List ℕ) (beads n : ℕ) (pivots : List ℕ) → Tried pattern log → Marks (log_of log) (pattern_of pattern) (steps_in log) sets
     → beads ≡ get_or pattern 1 0 → n ≡ get_or log 0 0 → Filled (first_place beads n sets) (1024 * beads + n) pivots
     → Walked (log_of log) (pattern_of pattern) n beads 0 0 0 pivots
 unfolding first_place sought pattern_of
@@ -88,4 +88,4 @@ pub walk_begins : (pattern log sets : List ℕ) (beads n : ℕ) (pivots : List �
     → Walked (log_of log) (pattern_of pattern) (steps_in log) (beads_in pattern) 0 0 0 pivots
 walk_begins pattern log sets beads n pivots t m eb en d = rw (eb, en) at (walk_begun pattern log sets beads n pivots t m eb en d)
 
-pub ruleset begin_kit = (tried_some, tried_beads, tried_steps, walk_begins)
+pub ruleset begin_kit = (tried_some, tried_beads, tried_steps, walk_begun)

@@ -13,14 +13,10 @@ use Rattle.std.specs.List.{list_all}
 use Rattle.sets.proofs.Truth.{false_no}
 use Rattle.marking.proofs.AddLaws.{reversed_all}
 use Rattle.std.specs.Prelude.{Option, Some, None}
+use Rattle.std.specs.Option.{MatchOption}
+use Rattle.std.proofs.lemmas.Option.{same_Some, none-some}
 use Rattle.rows.specs.Rows.{pivot_at}
 use Rattle.walk_places.specs.Search.{NoneSearch, LastsIn, LastAt, ServedAt, NoneLook, NextAt, NextStep}
-
-some_is : {x y : ℕ} → Some x ≡ Some y → x ≡ y
-some_is e = cc
-
-some_none : {x : ℕ} → ◌≡◌ {A = Option ℕ} (Some x) None → ⊥
-some_none e = cc
 
 -- ---- does no step search any more?
 
@@ -55,26 +51,30 @@ module _ (left n : ℕ) (found pivots : List ℕ) where
     pub served_none : (place ≡ n → ⊥) → ServedAt left n found pivots v false
     served_none ne = record { no = λ e s. absurd (ne (ep ∙ s)); yes = λ e. absurd (false_no true (sym e) tt) }
 
-  pub to_first : (v : ℕ) → NoneLook left n found pivots v v
-  to_first v = record { none = λ x a b. absurd (omega arith) }
-
-  module _ (v w : ℕ) (t : NoneLook left n found pivots v w) where
+  -- one vertex after the other, of which those before w have nothing to look for
+  module _ (v w : ℕ) (low : v ≤ w) (t : NoneLook left n found pivots v w) where
     pub to_more : (r : Bool) → ServedAt left n found pivots w r → r ≡ false → NoneLook left n found pivots v (w + 1)
     to_more r s e = record { none = λ x a b. go x a b (ℕ_discrete x w) }
       where
-        go : (x : ℕ) → v ≤ x → x < w + 1 → Dec (x ≡ w) → get_or pivots (pivot_at (left - 1) x) 0 ≡ n → get_or found (get_or pivots (pivot_at left x) 0) 0 ≡ 0
+        go : (x : ℕ) → v ≤ x → x < w + 1 → Dec (x ≡ w) → get_or pivots (pivot_at (left - 1) x) 0 ≡ n → ◌≡◌ {A = ℕ} (get_or found (get_or pivots (pivot_at left x) 0) 0) 0
         go x a b (yes z) = rw z (s.no e)
         go x a b (no z) = t.none x a (omega arith)
 
-    pub to_found : (r : Bool) → ServedAt left n found pivots w r → r ≡ true → v ≤ w → w < n → NextStep left n found pivots v (Some w)
-    to_found r s e low l = record {
-      some = λ x z. subst (NextAt left n found pivots v) (some_is z) (record { low = low; inside = l; before = t; search = s.yes e });
-      none = λ z. absurd (some_none z);
+    pub to_found : (r : Bool) → ServedAt left n found pivots w r → r ≡ true → w < n → NextStep left n found pivots v (Some w)
+    to_found r s e l = record {
+      some = λ x z. subst (NextAt left n found pivots v) (same_Some _ _ z) (record { low = low; inside = l; before = t; search = s.yes e });
+      none = λ z. absurd (none-some _ (sym z));
     }
 
-    pub to_end : n ≤ w → NextStep left n found pivots v None
-    to_end a = record { some = λ x z. absurd (some_none (sym z)); none = λ z. record { none = λ x h l. t.none x h (omega arith) } }
+  -- the first from v on for which a candidate serves, if there is one
+  pub next_found : (v : ℕ) (r : Option ℕ)
+      → MatchOption r ((k : ℕ) → v ≤ k → k < n → ServedAt left n found pivots k false)
+      (λ w. (v ≤ w) × (w < n) × ServedAt left n found pivots w true × ((k : ℕ) → v ≤ k → k < w → ServedAt left n found pivots k false))
+      → NextStep left n found pivots v r
+  next_found v None m = record { some = λ w z. absurd (none-some _ z); none = λ z. record { none = λ x a b. (m x a b).no refl } }
+  next_found v (Some w) m = record {
+    some = λ x z. subst (NextAt left n found pivots v) (same_Some _ _ z) (record { low = m.0; inside = m.1; before = record { none = λ k a b. (m.3 k a b).no refl }; search = m.2.yes refl });
+    none = λ z. absurd (none-some _ (sym z));
+  }
 
 pub ruleset served_kit = (served_some, served_none)
-
-pub ruleset step_kit = (to_first, to_more, to_found, to_end)

@@ -26,12 +26,13 @@ use Rattle.starts.specs.declared.Lanes.TheVariants.{Own}
 use Rattle.prefix_phase.proofs.MarkLaws.{pass_of}
 use Rattle.walk_places.specs.Walked.{sought, Walked}
 use Rattle.walk_places.specs.Search.{NoneSearch, LastsIn, LastAt, NoneLook, NextStep}
-use Rattle.std.specs.Prelude.{Option, Some, None}
+use Rattle.std.specs.Prelude.{Option, Some, None, unwrap_or}
+use Rattle.std.proofs.lemmas.Option.{same_Some, none-some}
 use Rattle.walk_places.proofs.WalkLaws.{looked_rest, walked_to, walked_on, walked_down, own_place, next_small, walked_skip, walked_put, walked_along}
 use Rattle.walk_turn.specs.declared.Turn.{Turn}
 use Rattle.walk_turn.specs.declared.Aim.{Aim}
 use Rattle.walk_turn.specs.declared.Opened.{Opened}
-use Rattle.walk_turn.specs.Turns.{TurnIn, Due, Walking, TurnReady, AimAt, AimOf, Begun, NoneServe, FirstServes, Picked, PutDown, turns_left, Next, Settled}
+use Rattle.walk_turn.specs.Turns.{known_to, TurnIn, Due, Walking, TurnReady, AimAt, AimOf, Begun, NoneServe, FirstServes, Picked, PutDown, turns_left, Next, Settled}
 
 count_is : (pattern : List ℕ) → (pattern_of pattern).count ≡ beads_in pattern
 unfolding pattern_of
@@ -85,24 +86,32 @@ module _ (pattern log : List ℕ) (n : ℕ) (turn : Turn) (seeds found pivots : 
     earlier = earlier_marked (log_of log) (pattern_of pattern) (steps_in log) sets m (turn.left - 1) (let b = bead in omega arith);
   }
 
-  -- past its first step it stays as it is
-  pub open_going : turn.from < turn.step → TurnReady pattern log n turn turn.to seeds found pivots
-  open_going l = record { turn_in = w.turn_in h; beads = w.beads; more = w.more l; served = w.served l; walked = w.walked }
+  -- once its candidates are found it stays as it is
+  pub open_going : (to : ℕ) → turn.to ≡ Some to → TurnReady pattern log n turn to seeds found pivots
+  open_going to e =
+      let t : known_to turn ≡ to = ap (λ (o : Option ℕ). unwrap_or o turn.from) e in
+      record {
+        turn_in = subst (TurnIn n turn) t (w.turn_in h);
+        beads = w.beads;
+        more = w.more to e;
+        served = w.served to e;
+        walked = subst (λ (x : ℕ). Walked (log_of log) (pattern_of pattern) n turn.left turn.from x turn.step pivots) t w.walked;
+      }
 
-  module _ (l : turn.step ≤ turn.from) (seeds' found' : List ℕ) where
+  module _ (l : turn.to ≡ None) (seeds' found' : List ℕ) where
     first : turn.step ≡ turn.from
-    first = let a = (w.turn_in h).low in omega arith
+    first = let a = (w.turn_in h).low in let b = w.first l in omega arith
 
-    before : Walked (log_of log) (pattern_of pattern) n (suc (turn.left - 1)) turn.from turn.to turn.from pivots
+    before : Walked (log_of log) (pattern_of pattern) n (suc (turn.left - 1)) turn.from (known_to turn) turn.from pivots
     before =
-        subst (λ (s : ℕ). Walked (log_of log) (pattern_of pattern) n (suc (turn.left - 1)) turn.from turn.to s pivots) first
-        (by_bead (log_of log) (pattern_of pattern) n turn.left turn.from turn.to turn.step pivots h w.walked)
+        subst (λ (s : ℕ). Walked (log_of log) (pattern_of pattern) n (suc (turn.left - 1)) turn.from (known_to turn) s pivots) first
+        (by_bead (log_of log) (pattern_of pattern) n turn.left turn.from (known_to turn) turn.step pivots h w.walked)
 
     own : (v : ℕ) → turn.from ≤ v → v < n → get_or pivots (pivot_at (turn.left - 1) v) 0 ≡ sought (log_of log) (pattern_of pattern) n (turn.left - 1) turn.from v
     own v a b =
         before.places (turn.left - 1) v bead b
         ∙ ap (λ (u : ℕ). sought (log_of log) (pattern_of pattern) n (turn.left - 1) u v)
-        (looked_rest n (suc (turn.left - 1)) turn.from turn.to turn.from (turn.left - 1) v refl a)
+        (looked_rest n (suc (turn.left - 1)) turn.from (known_to turn) turn.from (turn.left - 1) v refl a)
 
     -- at its first step
     opened : (r : ℕ) → turn.from < r → r ≤ n
@@ -124,7 +133,7 @@ module _ (pattern log : List ℕ) (n : ℕ) (turn : Turn) (seeds found pivots : 
       served = λ v a b e. served v a b (own v a b ∙ e);
       walked = by_left (log_of log) (pattern_of pattern) n turn.left turn.from r turn.step pivots h
           (subst (λ (s : ℕ). Walked (log_of log) (pattern_of pattern) n (suc (turn.left - 1)) turn.from r s pivots) (sym first)
-          (walked_to (log_of log) (pattern_of pattern) n (turn.left - 1) bead turn.from turn.to r pivots (w.turn_in h).up (omega arith) before));
+          (walked_to (log_of log) (pattern_of pattern) n (turn.left - 1) bead turn.from (known_to turn) r pivots (w.turn_in h).up (omega arith) before));
     }
 
     pub open_done : (b : Bool) → NoneSearch (turn.left - 1) turn.from n pivots b → b ≡ true → TurnReady pattern log n turn n seeds' found' pivots
@@ -139,8 +148,8 @@ module _ (pattern log : List ℕ) (n : ℕ) (turn : Turn) (seeds found pivots : 
   pub open_lasts : LastsIn turn.left n pivots
   open_lasts = record {
     inside = λ v l.
-        let s = next_small (log_of log) (pattern_of pattern) n (turn.left - 1) bead turn.from turn.to turn.step v l pivots
-        (by_bead (log_of log) (pattern_of pattern) n turn.left turn.from turn.to turn.step pivots h w.walked) in
+        let s = next_small (log_of log) (pattern_of pattern) n (turn.left - 1) bead turn.from (known_to turn) turn.step v l pivots
+        (by_bead (log_of log) (pattern_of pattern) n turn.left turn.from (known_to turn) turn.step pivots h w.walked) in
         let e : get_or pivots (pivot_at (suc (turn.left - 1)) v) 0 ≡ get_or pivots (pivot_at turn.left v) 0 = ap (λ (x : ℕ). get_or pivots (pivot_at x v) 0) (last_left turn.left h) in
         let f = (w.turn_in h).few in
         omega arith;
@@ -148,56 +157,35 @@ module _ (pattern log : List ℕ) (n : ℕ) (turn : Turn) (seeds found pivots : 
 
 -- ---- what is aimed at
 
-aim_is : {x y : Aim} → Some x ≡ Some y → x ≡ y
-aim_is e = cc
-
-aim_none_is : {x : Aim} → ◌≡◌ {A = Option Aim} (Some x) None → ⊥
-aim_none_is e = cc
-
-pub number_is : {x y : ℕ} → Some x ≡ Some y → x ≡ y
-number_is e = cc
-
-pub number_none : {x : ℕ} → ◌≡◌ {A = Option ℕ} (Some x) None → ⊥
-number_none e = cc
-
 module _ (n : ℕ) (turn : Turn) (to : ℕ) (i : TurnIn n turn to) where
   pub in_some : 1 ≤ turn.left
   in_some = i.some
 
-  pub in_place : turn.left ≤ 8
-  in_place = i.place
-
-  pub in_few : n ≤ 1024
-  in_few = i.few
-
-  pub in_step : turn.step ≤ n
-  in_step = let a = i.inside in omega arith
-
 pub aim_some : (n : ℕ) (turn : Turn) (found pivots : List ℕ) (r : Option ℕ) (step p : ℕ) → NextStep turn.left n found pivots turn.step r → r ≡ Some step
     → LastAt turn.left pivots step p → AimOf n turn found pivots (Some (record { step = step; pivot = p }))
 aim_some n turn found pivots r step p x e l = record {
-  some = λ a z. subst (AimAt n turn found pivots) (aim_is z) (record { next = x.some step e; pivot = l.is; inside = l.small });
-  none = λ z. absurd (aim_none_is z);
+  some = λ a z. subst (AimAt n turn found pivots) (same_Some _ _ z) (record { next = x.some step e; pivot = l.is; inside = l.small });
+  none = λ z. absurd (none-some _ (sym z));
 }
 
 pub aim_none : (n : ℕ) (turn : Turn) (found pivots : List ℕ) (r : Option ℕ) → NextStep turn.left n found pivots turn.step r → r ≡ None → AimOf n turn found pivots None
-aim_none n turn found pivots r x e = record { some = λ a z. absurd (aim_none_is (sym z)); none = λ z. x.none e }
+aim_none n turn found pivots r x e = record { some = λ a z. absurd (none-some _ z); none = λ z. x.none e }
 
 pub aim_inside : (left n : ℕ) (found pivots : List ℕ) (v : ℕ) (r : Option ℕ) (step : ℕ) → NextStep left n found pivots v r → r ≡ Some step → step < n
 aim_inside left n found pivots v r step x e = (x.some step e).inside
 
-pub ruleset aim_kit = (in_some, in_place, in_few, in_step, aim_some, aim_none, aim_inside)
+pub ruleset aim_kit = (aim_some, aim_none, aim_inside)
 
 -- ---- its place
 
 pub put_some : (turn : Turn) (step u : ℕ) (picked : Option ℕ) (old : List ℕ) → picked ≡ Some u → PutDown turn step picked old (set old (1024 * (turn.left - 1) + step) u)
 put_some turn step u picked old e = record {
-  some = λ w z. ap (set old (1024 * (turn.left - 1) + step)) (number_is (sym e ∙ z));
-  none = λ z. absurd (number_none (sym e ∙ z));
+  some = λ w z. ap (set old (1024 * (turn.left - 1) + step)) (same_Some _ _ (sym e ∙ z));
+  none = λ z. absurd (none-some _ (sym z ∙ e));
 }
 
 pub put_none : (turn : Turn) (step : ℕ) (picked : Option ℕ) (old : List ℕ) → picked ≡ None → PutDown turn step picked old old
-put_none turn step picked old e = record { some = λ w z. absurd (number_none (sym z ∙ e)); none = λ z. refl }
+put_none turn step picked old e = record { some = λ w z. absurd (none-some _ (sym e ∙ z)); none = λ z. refl }
 
 pub ruleset put_kit = (put_some, put_none)
 
@@ -228,9 +216,6 @@ module _ (pattern log : List ℕ) (n : ℕ) (turn : Turn) (to : ℕ) (seeds foun
 
   stands : Walked G P n (suc k) turn.from to turn.step pivots
   stands = by_bead G P n turn.left turn.from to turn.step pivots r.turn_in.some r.walked
-
-  pub ready_in : TurnIn n turn to
-  ready_in = r.turn_in
 
   -- the search of a vertex that is reached in the turn
   module _ (v : ℕ) (low : turn.from ≤ v) (inside : v < n) (w : Walked G P n (suc k) turn.from to v pivots) where
@@ -317,11 +302,11 @@ module _ (pattern log : List ℕ) (n : ℕ) (turn : Turn) (opened : Opened) (see
         → Walking pattern log n next seeds found new
     goes_on after x w = record {
       beads = let a = x.beads in let c = b.ready.beads in omega arith;
-      turn_in = λ l. subst (TurnIn n next) (sym x.to_is) (x.turn_in l);
-      more = λ l. let s = x.same l in let a = s.1 in let t = x.to_is in let m = b.ready.more in omega arith;
-      served = λ l. let s = x.same l in rw (s.0, s.1, x.to_is) b.ready.served;
-      walked = subst (λ (t : ℕ). Walked (log_of log) (pattern_of pattern) n next.left next.from t next.step new) (sym x.to_is)
-          (x.walked (log_of log) (pattern_of pattern) new b.ready.beads w);
+      turn_in = x.turn_in;
+      first = x.first;
+      more = λ t e. let s = x.same t e in let a = s.0 in let f = s.2 in let m = b.ready.more in omega arith;
+      served = λ t e. let s = x.same t e in rw (s.0, s.1, s.2) b.ready.served;
+      walked = x.walked (log_of log) (pattern_of pattern) new b.ready.beads w;
     }
 
     pub walks_on : Walking pattern log n next seeds found new
@@ -353,24 +338,23 @@ module _ (seeds found : List ℕ) (p from : ℕ) where
 
     pub seek_found : (to : ℕ) (b : Bool) → b ≡ overlaps 16 (get_or seeds u 0) (get_or found p 0) → b ≡ true → from ≤ u → u < to → Picked seeds found p from to (Some u)
     seek_found to b e f low high = record {
-      some = λ w z. subst (FirstServes seeds found p from to) (number_is z) (record { low = low; high = high; serves = sym e ∙ f; before = s });
-      none = λ z. absurd (number_none z);
+      some = λ w z. subst (FirstServes seeds found p from to) (same_Some _ _ z) (record { low = low; high = high; serves = sym e ∙ f; before = s });
+      none = λ z. absurd (none-some _ (sym z));
     }
 
     pub seek_end : (to : ℕ) → to ≤ u → Picked seeds found p from to None
-    seek_end to h = record { some = λ w z. absurd (number_none (sym z)); none = λ z. record { none = λ w a l. s.none w a (omega arith) } }
+    seek_end to h = record { some = λ w z. absurd (none-some _ z); none = λ z. record { none = λ w a l. s.none w a (omega arith) } }
 
 pub ruleset seek_kit = (seek_none, seek_on, seek_found, seek_end)
 
 -- ---- from turn to turn
 
 module _ (n : ℕ) (turn : Turn) (to after : ℕ) (more : turn.from < to) (up : turn.step < after) (i : TurnIn n turn to) where
-  pub next_step : after < n → Next n turn to after (record { left = turn.left; from = turn.from; to = to; step = after })
+  pub next_step : after < n → Next n turn to after (record { left = turn.left; from = turn.from; to = Some to; step = after })
   unfolding turns_left
   next_step h = record {
     fewer = let a = i.inside in omega arith;
     beads = omega arith;
-    to_is = refl;
     turn_in = λ l. record {
       some = i.some;
       place = i.place;
@@ -381,7 +365,8 @@ module _ (n : ℕ) (turn : Turn) (to after : ℕ) (more : turn.from < to) (up : 
       up = i.up;
       most = i.most;
     };
-    same = λ l. (refl, refl);
+    first = λ e. absurd (none-some _ (sym e));
+    same = λ t e. (sym (same_Some _ _ e), refl, refl);
     walked = λ G P pivots b w. w;
   }
 
@@ -392,12 +377,11 @@ module _ (n : ℕ) (turn : Turn) (to after : ℕ) (more : turn.from < to) (up : 
       let r = suc-mul m' (suc n) in
       omega arith
 
-  pub next_candidates : n ≤ after → to < n → Next n turn to after (record { left = turn.left; from = to; to = to; step = to })
+  pub next_candidates : n ≤ after → to < n → Next n turn to after (record { left = turn.left; from = to; to = None; step = to })
   unfolding turns_left
   next_candidates h l = record {
     fewer = lessens (turn.left * suc n + (n - turn.from)) (turn.left * suc n + (n - to)) (n - turn.step) (n - to) (omega arith) (omega arith);
     beads = omega arith;
-    to_is = refl;
     turn_in = λ b. record {
       some = i.some;
       place = i.place;
@@ -408,19 +392,19 @@ module _ (n : ℕ) (turn : Turn) (to after : ℕ) (more : turn.from < to) (up : 
       up = omega arith;
       most = i.most;
     };
-    same = λ b. absurd (omega arith);
+    first = λ e. omega arith;
+    same = λ t e. absurd (none-some _ e);
     walked = λ G P pivots b w.
         by_left G P n turn.left to to to pivots i.some
         (walked_on G P n (turn.left - 1) (let s = i.some in omega arith) turn.from to after pivots h
         (by_bead G P n turn.left turn.from to after pivots i.some w));
   }
 
-  pub next_bead : n ≤ after → n ≤ to → Next n turn to after (record { left = turn.left - 1; from = 0; to = to; step = 0 })
+  pub next_bead : n ≤ after → n ≤ to → Next n turn to after (record { left = turn.left - 1; from = 0; to = None; step = 0 })
   unfolding turns_left
   next_bead h l = record {
     fewer = lessens (turn.left * suc n + (n - turn.from)) ((turn.left - 1) * suc n + (n - 0)) (n - turn.step) (n - 0) fewer (omega arith);
     beads = omega arith;
-    to_is = refl;
     turn_in = λ b. record {
       some = b;
       place = let p = i.place in omega arith;
@@ -429,11 +413,12 @@ module _ (n : ℕ) (turn : Turn) (to after : ℕ) (more : turn.from < to) (up : 
       low = omega arith;
       inside = let s = i.start in omega arith;
       up = omega arith;
-      most = i.most;
+      most = omega arith;
     };
-    same = λ b. absurd (omega arith);
+    first = λ e. omega arith;
+    same = λ t e. absurd (none-some _ e);
     walked = λ G P pivots b w.
-        walked_down G P n (turn.left - 1) (let s = i.some in omega arith) turn.from to after pivots h
+        walked_down G P n (turn.left - 1) (let s = i.some in omega arith) turn.from 0 after pivots h
         (subst (λ (t : ℕ). Walked G P n (suc (turn.left - 1)) turn.from t after pivots) all
         (by_bead G P n turn.left turn.from to after pivots i.some w));
   }

@@ -1,5 +1,5 @@
 -- A turn of the walk back: its bead, its candidates, its step, and what becomes of the step's place.
-use Rattle.std.specs.Prelude.{ℕ, suc, ◌+◌, ◌-◌, ◌*◌, ◌≤◌, ◌<◌, ◌≡◌, true, false, List, get_or, set, Option, Some, None}
+use Rattle.std.specs.Prelude.{ℕ, suc, ◌+◌, ◌-◌, ◌*◌, ◌≤◌, ◌<◌, ◌≡◌, true, false, List, get_or, set, Option, Some, None, unwrap_or}
 use Rattle.sets.specs.Sets.{overlaps}
 use Rattle.necklace.specs.Dag.{Dag}
 use Rattle.necklace.specs.Necklace.{Pattern}
@@ -13,6 +13,10 @@ use Rattle.walk_turn.specs.declared.Turn.{Turn}
 use Rattle.walk_turn.specs.declared.Aim.{Aim}
 use Rattle.walk_turn.specs.declared.Opened.{Opened}
 
+-- Where the candidates of a turn end, as far as it is known: while they are not found there are none.
+abbrev pub known_to : Turn → ℕ
+known_to turn = unwrap_or turn.to turn.from
+
 -- A turn, with its candidates below `to`, lies inside the walk.
 pub record TurnIn (n : ℕ) (turn : Turn) (to : ℕ) : Type 0 where
   pub some : 1 ≤ turn.left
@@ -24,14 +28,15 @@ pub record TurnIn (n : ℕ) (turn : Turn) (to : ℕ) : Type 0 where
   pub up : turn.from ≤ to
   pub most : to ≤ n
 
--- Between turns. Past the first step of a turn its candidates are known.
+-- Between turns. Until its candidates are found a turn is at its first step.
 pub record Walking (pattern log : List ℕ) (n : ℕ) (turn : Turn) (seeds found pivots : List ℕ) : Type 0 where
   pub beads : turn.left ≤ (pattern_of pattern).count
-  pub turn_in : 1 ≤ turn.left → TurnIn n turn turn.to
-  pub more : turn.from < turn.step → turn.from < turn.to
-  pub served : turn.from < turn.step → (v : ℕ) → turn.from ≤ v → v < n → sought (log_of log) (pattern_of pattern) n (turn.left - 1) turn.from v ≡ n
-      → Served pattern log n (turn.left - 1) turn.from turn.to seeds found
-  pub walked : Walked (log_of log) (pattern_of pattern) n turn.left turn.from turn.to turn.step pivots
+  pub turn_in : 1 ≤ turn.left → TurnIn n turn (known_to turn)
+  pub first : turn.to ≡ None → turn.step ≤ turn.from
+  pub more : (to : ℕ) → turn.to ≡ Some to → turn.from < to
+  pub served : (to : ℕ) → turn.to ≡ Some to → (v : ℕ) → turn.from ≤ v → v < n → sought (log_of log) (pattern_of pattern) n (turn.left - 1) turn.from v ≡ n
+      → Served pattern log n (turn.left - 1) turn.from to seeds found
+  pub walked : Walked (log_of log) (pattern_of pattern) n turn.left turn.from (known_to turn) turn.step pivots
 
 -- A turn is due: a bead is left, and n is the step count.
 pub record Due (pattern log : List ℕ) (n : ℕ) (turn : Turn) (seeds found pivots : List ℕ) : Type 0 where
@@ -97,11 +102,11 @@ turns_left n turn = (turn.left * suc n + (n - turn.from)) * suc n + (n - turn.st
 pub record Next (n : ℕ) (turn : Turn) (to after : ℕ) (new : Turn) : Type 0 where
   pub fewer : turns_left n new < turns_left n turn
   pub beads : new.left ≤ turn.left
-  pub to_is : new.to ≡ to
-  pub turn_in : 1 ≤ new.left → TurnIn n new to
-  pub same : new.from < new.step → (new.left ≡ turn.left) × (new.from ≡ turn.from)
+  pub turn_in : 1 ≤ new.left → TurnIn n new (known_to new)
+  pub first : new.to ≡ None → new.step ≤ new.from
+  pub same : (t : ℕ) → new.to ≡ Some t → (t ≡ to) × (new.left ≡ turn.left) × (new.from ≡ turn.from)
   pub walked : (G : Dag) (P : Pattern) (pivots : List ℕ) → turn.left ≤ P.count → Walked G P n turn.left turn.from to after pivots
-      → Walked G P n new.left new.from to new.step pivots
+      → Walked G P n new.left new.from (known_to new) new.step pivots
 
 -- A step that is aimed at has been through the turn: the smallest candidate that serves is put down for it, and the turn after it follows.
 pub record SettledAt (n : ℕ) (turn : Turn) (to : ℕ) (aim : Aim) (seeds found old new : List ℕ) (next : Turn) : Type 0 where

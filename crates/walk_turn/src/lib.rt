@@ -1,22 +1,23 @@
 // A turn of the walk back: of one bead, of some candidates for its pivots, and of the next step that has one of them to look for.
+// Rooms are slices of at least so many numbers, as each contract says: an array, or a struct with the bound, would take fewer or be made anew at each call.
 #![tactic(auto)]
 
 ghost use Rattle.std.specs.Prelude.{◌-◌, ◌+◌, ◌<◌, ◌≤◌, ◌≡◌, ℕ, length};
 ghost use Rattle.layout.specs.Layout.{most_steps, work_length};
 ghost use Rattle.prefix_phase.specs.Cases.{MarksOf};
-ghost use Rattle.walk_places.specs.Search.{LastsIn};
 ghost use Rattle.walk_turn.specs.Turns.{TurnIn, AimOf, PutDown, Next};
 
 use prefix_phase::Case;
 use starts::Lanes;
+use walk_places::Places;
 
-// A turn: how many beads are left, the last of which it is of; its candidates, from `from` on and below `to`; and the first step not looked
-// at. Where that is `from`, it is not known yet where the candidates end.
+// A turn: how many beads are left, the last of which it is of; where its candidates begin, and where they end, once they are found at its first
+// step; and the first step not looked at.
 #[derive(Clone, Copy)]
 pub struct Turn {
     pub left: usize,
     pub from: usize,
-    pub to: usize,
+    pub to: Option<usize>,
     pub step: usize,
 }
 
@@ -59,11 +60,10 @@ impl<'a> Walk<'a> {
     ) -> usize
         requires due { DueIn self.now n turn seeds.old found.old pivots.now }
         requires in_bounds { (9216 ≤ length pivots.now) × (most_steps ≤ length seeds.old) × (most_steps ≤ length found.old) × (work_length ≤ length work.old) }
-        ensures ready { ReadyIn self.now n turn result seeds.new found.new pivots.now }
-        ensures lasts_in { LastsIn turn.left n pivots.now }
+        ensures { ReadyIn self.now n turn result seeds.new found.new pivots.now }
     {
-        if turn.from < turn.step {
-            return turn.to;
+        if let Some(to) = turn.to {
+            return to;
         }
         let k = turn.left - 1;
         if walk_places::none_search(k, turn.from, n, pivots) {
@@ -86,33 +86,32 @@ impl<'a> Walk<'a> {
         requires in_bounds { (9216 ≤ length pivots.now) × (most_steps ≤ length seeds.old) × (most_steps ≤ length found.old) × (work_length ≤ length work.old) }
         ensures { BegunIn self.now n turn result seeds.new found.new pivots.now }
     {
+        let places = Places {
+            left: turn.left,
+            n,
+            pivots,
+        };
         let to = self.open_turn(n, turn, pivots, seeds, found, work);
-        let aim = take_aim(n, turn, to, found, pivots);
+        let aim = take_aim(turn, &places, found);
         Opened { to, aim }
     }
 }
 
 // Aims at the next step that has something to look for.
 #[tactic(auto, using(crate::proofs::TurnLaws::aim_kit))]
-fn take_aim(n: usize, turn: Turn, to: usize, found: &[u16], pivots: &[u16]) -> Option<Aim>
-    requires turn_in { TurnIn n turn to }
-    requires lasts_in { LastsIn turn.left n pivots.now }
-    requires in_bounds { (1024 ≤ length found.now) × (9216 ≤ length pivots.now) }
-    ensures { AimOf n turn found.now pivots.now result }
+fn take_aim(turn: Turn, places: &Places, found: &[u16]) -> Option<Aim>
+    requires { (places.now.left ≡ turn.left) × (1 ≤ turn.left) × (turn.step ≤ places.now.n) × (1024 ≤ length found.now) }
+    ensures { AimOf places.now.n turn found.now places.now.pivots.now result }
 {
-    match walk_places::next_step(turn.left, n, found, pivots, turn.step) {
-        Some(step) => {
-            let pivot = walk_places::last_pivot(turn.left, n, pivots, step);
-            Some(Aim { step, pivot })
-        }
-        None => None,
-    }
+    let step = places.next_step(found, turn.step)?;
+    let pivot = places.last_pivot(step);
+    Some(Aim { step, pivot })
 }
 
 // Puts the candidate that was picked down as the pivot of the step, if one was.
 #[tactic(auto, using(crate::proofs::TurnLaws::put_kit))]
 pub fn put_down(turn: Turn, step: usize, picked: Option<usize>, pivots: &mut [u16])
-    requires turn_in { (1 ≤ turn.left) × (turn.left ≤ 8) × (step < 1024) × (9216 ≤ length pivots.old) }
+    requires turn_in { (1 ≤ turn.left) × (turn.left ≤ 8) × (step ≤ 1024) × (9216 ≤ length pivots.old) }
     requires picked_bound { (u : ℕ) → picked ≡ Some u → u ≤ 1024 }
     ensures { PutDown turn step picked pivots.old pivots.new }
 {
@@ -130,7 +129,7 @@ pub fn next_turn(n: usize, turn: Turn, to: usize, after: usize) -> Turn
 {
     if after < n {
         return Turn {
-            to,
+            to: Some(to),
             step: after,
             ..turn
         };
@@ -138,7 +137,7 @@ pub fn next_turn(n: usize, turn: Turn, to: usize, after: usize) -> Turn
     if to < n {
         return Turn {
             from: to,
-            to,
+            to: None,
             step: to,
             ..turn
         };
@@ -146,7 +145,7 @@ pub fn next_turn(n: usize, turn: Turn, to: usize, after: usize) -> Turn
     Turn {
         left: turn.left - 1,
         from: 0,
-        to,
+        to: None,
         step: 0,
     }
 }

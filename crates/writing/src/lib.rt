@@ -1,12 +1,15 @@
 // Bytes and numbers put one behind the other into a lent room. A byte is put where there is a place
 // for it, and the output goes on to the next place anyway: so no method asks for room, and over a
 // room without places an output measures its text. `fmt::Write` would not do: it takes a `str`,
-// and a header text is any bytes; and it answers a `Result`, where nothing here can fail.
+// and a header text is any bytes; and it answers a `Result`, where nothing here can fail. That the
+// index does not overflow stands in each clause: each text asks a bound of its own, so that it is
+// no fact of an `Output`.
 #![tactic(auto)]
 
-ghost use Rattle.std.specs.Prelude.{◌+◌, ◌*◌, ◌^◌, ◌≤◌, ◌<◌, ◌≡◌, ◌++◌, ◌∷◌, [], length};
+ghost use Rattle.std.specs.Prelude.{◌+◌, ◌*◌, ◌^◌, ◌≤◌, ◌<◌, ◌≡◌, ◌++◌, ◌∷◌, [], length, ℕ, List};
 ghost use Rattle.numbers.specs.Numbers.{spell};
 ghost use Rattle.writing.specs.Put.{Adds, listed};
+ghost use Rattle.writing.specs.Lay.{Lays, Laid};
 
 // A room, and the index of the next byte, which may lie behind the room's last place.
 #[derive(Drop)]
@@ -44,6 +47,7 @@ impl<'a> Output<'a> {
         if n >= 10 {
             self.put_digits(n / 10);
         }
+        // The cast keeps the digit: it is below 10.
         self.put_byte(b'0' + (n % 10) as u8);
     }
 
@@ -86,4 +90,19 @@ impl<'a> Output<'a> {
             self.put_number(*n);
         }
     }
+}
+
+// Lays a text at the front of a room and answers how long it is; nothing, and the room is as it was,
+// where the room is too short. The text is put twice: where there are no places, which measures it,
+// and then into the room.
+pub fn lay<F: Fn(&mut [u8]) -> usize>(room: &mut [u8], put: F) -> Option<usize>
+    requires { F.IsAlwaysCallable put }
+    ensures { (text : List ℕ) → Lays (F.post put) text → Laid text room.old result room.new }
+{
+    let n = put(&mut [0u8; 0]);
+    if room.len() < n {
+        return None;
+    }
+    put(room);
+    Some(n)
 }

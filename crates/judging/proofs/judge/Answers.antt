@@ -1,44 +1,7 @@
 -- Each refusal, and the judging, in document 01's order.
-use Rattle.answer.proofs.FaultLaws.{fault_kit}
 use Rattle.judging.proofs.CallLaws.{part_kit, part_counts, call_answer, call_result, call_work}
 use borrow.Author.Rules.{rules}
 use Rattle.judging.proofs.judge.Goals as goal
-
-pub returns-then-log-lt-LOG_LENGTH-clause-value : goal.returns-then-log-lt-LOG_LENGTH-clause-value
-returns-then-log-lt-LOG_LENGTH-clause-value c = search (rules, fault_kit)
-
-pub returns-then-log-lt-LOG_LENGTH-clause-res_after : goal.returns-then-log-lt-LOG_LENGTH-clause-res_after
-returns-then-log-lt-LOG_LENGTH-clause-res_after c = search (rules, fault_kit)
-
-pub returns-then-log-lt-LOG_LENGTH-clause-work_after : goal.returns-then-log-lt-LOG_LENGTH-clause-work_after
-returns-then-log-lt-LOG_LENGTH-clause-work_after c = search (rules, fault_kit)
-
-pub returns-then-pattern-lt-PATTERN_LENGTH-clause-value : goal.returns-then-pattern-lt-PATTERN_LENGTH-clause-value
-returns-then-pattern-lt-PATTERN_LENGTH-clause-value c = search (rules, fault_kit)
-
-pub returns-then-pattern-lt-PATTERN_LENGTH-clause-res_after : goal.returns-then-pattern-lt-PATTERN_LENGTH-clause-res_after
-returns-then-pattern-lt-PATTERN_LENGTH-clause-res_after c = search (rules, fault_kit)
-
-pub returns-then-pattern-lt-PATTERN_LENGTH-clause-work_after : goal.returns-then-pattern-lt-PATTERN_LENGTH-clause-work_after
-returns-then-pattern-lt-PATTERN_LENGTH-clause-work_after c = search (rules, fault_kit)
-
-pub returns-then-res-lt-RESULT_LENGTH-clause-value : goal.returns-then-res-lt-RESULT_LENGTH-clause-value
-returns-then-res-lt-RESULT_LENGTH-clause-value c = search (rules, fault_kit)
-
-pub returns-then-res-lt-RESULT_LENGTH-clause-res_after : goal.returns-then-res-lt-RESULT_LENGTH-clause-res_after
-returns-then-res-lt-RESULT_LENGTH-clause-res_after c = search (rules, fault_kit)
-
-pub returns-then-res-lt-RESULT_LENGTH-clause-work_after : goal.returns-then-res-lt-RESULT_LENGTH-clause-work_after
-returns-then-res-lt-RESULT_LENGTH-clause-work_after c = search (rules, fault_kit)
-
-pub returns-then-work-lt-WORK_LENGTH-clause-value : goal.returns-then-work-lt-WORK_LENGTH-clause-value
-returns-then-work-lt-WORK_LENGTH-clause-value c = search (rules, fault_kit)
-
-pub returns-then-work-lt-WORK_LENGTH-clause-res_after : goal.returns-then-work-lt-WORK_LENGTH-clause-res_after
-returns-then-work-lt-WORK_LENGTH-clause-res_after c = search (rules, fault_kit)
-
-pub returns-then-work-lt-WORK_LENGTH-clause-work_after : goal.returns-then-work-lt-WORK_LENGTH-clause-work_after
-returns-then-work-lt-WORK_LENGTH-clause-work_after c = search (rules, fault_kit)
 
 pub slice_bounds-judge_fit-end : goal.slice_bounds-judge_fit-end
 slice_bounds-judge_fit-end c = search (rules, part_counts)

@@ -6,7 +6,7 @@ use Rattle.passes.proofs.pass_turns.Given as goal
 
 abbrev pub invariant-loop-x : goal.invariant-loop-x
 invariant-loop-x l =
-    (l.pass.first ≤ l.x) × HeldBy l.pass l.x l.work × FoundBy l.pass l.x l.found × BoundedBy l.pass l.hopeful l.last l.x l.reach
+    (l.pass.first ≤ l.x) × HeldBy l.pass l.x l.work × FoundBy l.pass l.x l.found × BoundedBy l.pass l.x l.reach
 
 abbrev pub decreases-loop-x : goal.decreases-loop-x
-decreases-loop-x l = steps_in l.pass.log.numbers.now - l.x
+decreases-loop-x l = steps_in l.pass.log.now - l.x

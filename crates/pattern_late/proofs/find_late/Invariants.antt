@@ -2,7 +2,7 @@
 use Rattle.pattern_late.specs.Late.{late_faults}
 use Rattle.pattern_late.proofs.LateLaws.{late_from}
 use mathlib.Core.Path.{◌≡◌}
-use Prim.Native.Nat.{◌≤◌, ◌-◌, ◌+◌}
+use Prim.Native.Nat.{◌≤◌, ◌+◌}
 use Rattle.pattern_late.proofs.find_late.Given as goal
 
 abbrev pub invariant-loop-slot : goal.invariant-loop-slot

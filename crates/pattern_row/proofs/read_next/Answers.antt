@@ -1,19 +1,24 @@
 -- One field more, and past the last label.
 use borrow.Author.Rules.{rules}
 use Rattle.pattern_row.proofs.RowLaws.{sets_kit}
-use Rattle.pattern_row.proofs.read_next.Goals.{in-Some, in-None+then-a-len, in-None+else-a-len}
+use Rattle.pattern_row.proofs.read_next.Goals.{then-is_none+then-a-len, else-is_none, else-is_none-via-then-is_none+else-a-len, else-is_none-via-else-is_none}
 use Rattle.pattern_row.proofs.read_next.Goals as goal
 
 pub loop-a-preserved : goal.loop-a-preserved
-loop-a-preserved c =
-    elim c.match-number_at.branch [
-      | in-Some w ↦ (search rules, search rules, search (rules, sets_kit), search (rules, sets_kit))
-      | in-None+then-a-len w ↦ (search rules, search rules, search (rules, sets_kit), search (rules, sets_kit))
-      | in-None+else-a-len w ↦ (search rules, search rules, search (rules, sets_kit), search (rules, sets_kit))
-    ]
+loop-a-preserved c = (
+  search (rules, sets_kit),
+  elim c.if-is_none.branch [
+    | then-is_none+then-a-len w ↦ rw w.numbers-is (search (rules, sets_kit))
+    | else-is_none w ↦
+        rw w.numbers-is (elim w.else-is_none.branch [
+          | else-is_none-via-then-is_none+else-a-len v ↦ search (rules, sets_kit)
+          | else-is_none-via-else-is_none v ↦ search (rules, sets_kit)
+        ])
+  ],
+)
 
-pub returns-clause-value : goal.returns-clause-value
-returns-clause-value c = search (rules, sets_kit)
+pub returns-clause-sets : goal.returns-clause-sets
+returns-clause-sets c = search (rules, sets_kit)
 
-pub returns-clause-next_after : goal.returns-clause-next_after
-returns-clause-next_after c = search (rules, sets_kit)
+pub returns-clause-numbers : goal.returns-clause-numbers
+returns-clause-numbers c = search (rules, sets_kit)

@@ -1,6 +1,24 @@
 use borrow.Author.Rules.{rules}
-use Rattle.pattern_walk.proofs.LinesLaws.{first_kit}
+use Rattle.pattern_walk.proofs.LinesLaws.{first_inside, first_refused, first_labels, first_told}
 use Rattle.pattern_walk.proofs.read_first.Goals as goal
 
-pub returns-in-Ok-read_header : goal.returns-in-Ok-read_header
-returns-in-Ok-read_header c = search (rules, first_kit)
+pub slice_bounds-read_header-end : goal.slice_bounds-read_header-end
+slice_bounds-read_header-end c =
+    let h =
+    first_inside _ _ c.args.text.now c.whole_line.result c.whole_line.ensures c.in_line-2.result c.in_line-2.ensures c.in_ok-n.n c.in_ok-n.was in
+    search (rules, h)
+
+pub returns-in_err-count : goal.returns-in_err-count
+returns-in_err-count c =
+    first_told _ c.in_err-count.field-0.0 (
+    first_refused c.args.text.now (search rules) (search rules) c.whole_line.result c.whole_line.ensures c.in_line-2.result c.in_line-2.ensures c.in_ok-n.n
+    c.in_ok-n.was c.read_header.result c.read_header.ensures.value c.in_line-3.result c.in_line-3.ensures c.in_err-count.field-0.0 c.in_err-count.was
+    ) _ (search rules)
+
+pub returns : goal.returns
+returns c =
+    record {
+      told =
+          first_labels c.args.text.now (search rules) (search rules) c.whole_line.result c.whole_line.ensures c.in_line-2.result c.in_line-2.ensures c.in_ok-n.n
+          c.in_ok-n.was c.read_header.result c.read_header.ensures.value c.in_line-3.result c.in_line-3.ensures c.in_ok-count.count c.in_ok-count.was;
+    }

@@ -1,8 +1,13 @@
-use Rattle.std.proofs.Common.{◌+◌, ◌*◌, ◌≤◌}
+use Rattle.std.proofs.Common.{◌+◌, ◌*◌, ◌≤◌, ◌≡◌, drop}
 use Rattle.writing.specs.Put.{Adds}
 use Rattle.report.specs.Report.{row_lines}
 use Rattle.report.proofs.put_lines.Given as goal
 
 abbrev pub invariant-loop-step : goal.invariant-loop-step
 invariant-loop-step l =
-    (l.output.at ≤ l.initial.output.at + 67 * l.step) × Adds (row_lines l.beads l.step l.res) l.initial.output l.output
+    (l.step-iterator.a.end ≡ l.steps)
+    × (l.step-iterator.a.start ≤ l.steps)
+    × (l.step-iterator.b.size ≡ 10)
+    × (l.step-iterator.b.rest.now ≡ drop (10 * l.step-iterator.a.start) l.res)
+    × (l.output.at ≤ l.initial.output.at + 67 * l.step-iterator.a.start)
+    × Adds (row_lines l.beads l.step-iterator.a.start l.res) l.initial.output l.output

@@ -1,9 +1,0 @@
--- The states' lines, one after the other.
-use Rattle.std.proofs.Common.{◌+◌, ◌*◌, ◌≤◌}
-use Rattle.pattern_texts.specs.Spelled.{rows_of_bead, row_lines}
-use Rattle.writing.specs.Put.{Adds}
-use Rattle.pattern_layout.proofs.put_bead.Given as goal
-
-abbrev pub invariant-loop-q : goal.invariant-loop-q
-invariant-loop-q l =
-    (l.output.at ≤ l.initial.output.at + 119 * l.q) × Adds (row_lines (rows_of_bead l.pattern l.j l.q)) l.initial.output l.output

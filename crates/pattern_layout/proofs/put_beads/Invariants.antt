@@ -1,9 +1,0 @@
--- The beads' lines, one after the other.
-use Rattle.std.proofs.Common.{◌+◌, ◌*◌, ◌≤◌}
-use Rattle.pattern_texts.specs.Spelled.{rows_of_beads, row_lines}
-use Rattle.writing.specs.Put.{Adds}
-use Rattle.pattern_layout.proofs.put_beads.Given as goal
-
-abbrev pub invariant-loop-j : goal.invariant-loop-j
-invariant-loop-j l =
-    (l.output.at ≤ l.initial.output.at + 1904 * l.j) × Adds (row_lines (rows_of_beads l.pattern l.j)) l.initial.output l.output

@@ -1,9 +1,0 @@
--- `read_front` takes at least a byte more each turn, and no more than there is room for.
-use Rattle.std.proofs.Common.{◌≤◌, ◌-◌, length}
-use Rattle.trial.proofs.files.read_front.Given as goal
-
-abbrev pub invariant-loop-done : goal.invariant-loop-done
-invariant-loop-done g l = l.done ≤ length l.buf
-
-abbrev pub decreases-loop-done : goal.decreases-loop-done
-decreases-loop-done g l = length l.initial.buf - l.done
