@@ -4,12 +4,15 @@
 
 #include "../include/runin.h"
 
-enum { MOST_STEPS = 1024, MOST_LINKS = 4096, MOST_BEADS = 8, MOST_STATES = 16, MOST_LABELS = 16, MOST_LINE = 240 };
+enum {
+    MOST_STEPS = RUNIN_MOST_STEPS, MOST_LINKS = RUNIN_MOST_LINKS, MOST_BEADS = RUNIN_MOST_BEADS, MOST_STATES = RUNIN_MOST_STATES,
+    MOST_LABELS = RUNIN_MOST_LABELS, MOST_LINE = RUNIN_MOST_LINE
+};
 
-/* Places in the pattern buffer and in the log buffer. */
-enum { RULES = 2, STATE_COUNTS = 10, FINALS = 18, NEXTS = 26 };
-enum { LABELS = 1, BOARDS = 1025, BEGINS = 2049, LINKS = 3074 };
-enum { SOME = 1, ALL = 2 };
+/* Where the parts of the pattern buffer and of the log buffer begin. */
+enum { RULES = RUNIN_PATTERN_RULE(0), STATE_COUNTS = RUNIN_PATTERN_STATES(0), FINALS = RUNIN_PATTERN_FINAL(0), NEXTS = RUNIN_PATTERN_NEXT(0, 0, 0) };
+enum { LABELS = RUNIN_LOG_LABELS(0), BOARDS = RUNIN_LOG_BOARD(0), BEGINS = RUNIN_LOG_BEGIN(0), LINKS = RUNIN_LOG_LINK(0) };
+enum { SOME = RUNIN_SOME, ALL = RUNIN_ALL };
 
 typedef uint64_t pattern_reader(const uint8_t *text, size_t text_len, uint16_t *pattern, size_t pattern_len);
 typedef uint64_t log_reader(const uint8_t *text, size_t text_len, uint16_t label_count, uint16_t *log, size_t log_len);
@@ -58,7 +61,7 @@ static inline uint64_t refusal(uint64_t number, uint64_t line, uint64_t byte) {
 struct input {
     char name[40];
     size_t pattern_len, log_len;
-    uint8_t pattern[16384], log[65535];
+    uint8_t pattern[RUNIN_MOST_PATTERN_TEXT], log[RUNIN_MOST_LOG_TEXT];
 };
 
 /* The FULL_SIZES shapes from FULL_SIZE on have 8 beads of 16 states, 16 labels, 1,024 steps; FULL_SIZE has 4,096 links too. */

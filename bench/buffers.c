@@ -54,11 +54,11 @@ int is_log(const uint16_t *log, unsigned labels) {
 
 unsigned buffers_refused(const uint16_t *pattern, size_t pattern_len, const uint16_t *log, size_t log_len,
                          size_t result_len, size_t work_len) {
-    if (log_len < RUNIN_LOG_LENGTH) return RUNIN_LOG_SHORT;
-    if (pattern_len < RUNIN_PATTERN_LENGTH) return RUNIN_PATTERN_SHORT;
-    if (result_len < RUNIN_RESULT_LENGTH) return RUNIN_RESULT_SHORT;
-    if (work_len < RUNIN_WORK_LENGTH) return RUNIN_WORK_SHORT;
-    if (!is_pattern(pattern)) return RUNIN_NO_PATTERN;
-    if (!is_log(log, pattern[0])) return RUNIN_NO_LOG;
+    if (log_len < RUNIN_LOG_LENGTH) return RUNIN_REFUSED_LOG_SHORT;
+    if (pattern_len < RUNIN_PATTERN_LENGTH) return RUNIN_REFUSED_PATTERN_SHORT;
+    if (result_len < RUNIN_RESULT_LENGTH) return RUNIN_REFUSED_RESULT_SHORT;
+    if (work_len < RUNIN_WORK_LENGTH) return RUNIN_REFUSED_WORK_SHORT;
+    if (!is_pattern(pattern)) return RUNIN_REFUSED_NO_PATTERN;
+    if (!is_log(log, pattern[0])) return RUNIN_REFUSED_NO_LOG;
     return 0;
 }

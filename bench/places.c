@@ -68,19 +68,19 @@ unsigned pattern_place(const uint8_t *text, size_t text_len, unsigned refusal, u
     if (broken >= 0) return broken;
     unsigned count = split(line.at, line.len, fields), i = 4;
     switch (refusal) {
-    case RUNIN_PATTERN_LINE:
+    case RUNIN_REFUSED_PATTERN_LINE:
         if (count != 4u + buffer[0]) return 0;
         for (i = 0; i == 1 || number(fields[i]) >= 0;) i++;
         break;
-    case RUNIN_PATTERN_HEADER:
+    case RUNIN_REFUSED_PATTERN_HEADER:
         return wrong_name(line, fields, count);
-    case RUNIN_PATTERN_ORDER:
+    case RUNIN_REFUSED_PATTERN_ORDER:
         i = out_of_order(fields, buffer);
         break;
-    case RUNIN_PATTERN_RULE:
+    case RUNIN_REFUSED_PATTERN_RULE:
         i = 1;
         break;
-    case RUNIN_NEXT_STATE:
+    case RUNIN_REFUSED_NEXT_STATE:
         while (!lacks(number(fields[i]), buffer[STATE_COUNTS + number(fields[0]) - 1])) i++;
         break;
     default:
@@ -138,19 +138,19 @@ unsigned log_place(const uint8_t *text, size_t text_len, unsigned refusal, unsig
     if (broken >= 0) return broken;
     unsigned count = split(line.at, line.len, fields), i = 0;
     switch (refusal) {
-    case RUNIN_LOG_LINE:
+    case RUNIN_REFUSED_LOG_LINE:
         if (count != 4) return 0;
         i = wrong_field(fields, place);
         break;
-    case RUNIN_LOG_HEADER:
+    case RUNIN_REFUSED_LOG_HEADER:
         return wrong_column(line, fields, count);
-    case RUNIN_STEP_NUMBER:
+    case RUNIN_REFUSED_STEP_NUMBER:
         i = place[0];
         break;
-    case RUNIN_LINKS:
+    case RUNIN_REFUSED_LINKS:
         i = place[3];
         break;
-    case RUNIN_LABELS:
+    case RUNIN_REFUSED_LABELS:
         i = place[2];
         break;
     default:

@@ -37,20 +37,20 @@ unsigned header_labels(const uint8_t *header, size_t header_len) {
 static unsigned pattern_row(const struct bytes *fields, unsigned count, unsigned labels, unsigned last_state, uint16_t *buffer) {
     unsigned last = buffer[1];
     uint16_t next[MOST_LABELS];
-    if (count != 4 + labels) return RUNIN_PATTERN_LINE;
+    if (count != 4 + labels) return RUNIN_REFUSED_PATTERN_LINE;
     int32_t bead = number(fields[0]), state = number(fields[2]), final = number(fields[3]);
-    if (bead < 0 || state < 0 || final < 0) return RUNIN_PATTERN_LINE;
+    if (bead < 0 || state < 0 || final < 0) return RUNIN_REFUSED_PATTERN_LINE;
     for (unsigned a = 0; a < labels; a++) {
         int32_t set = number(fields[4 + a]);
-        if (set < 0) return RUNIN_PATTERN_LINE;
+        if (set < 0) return RUNIN_REFUSED_PATTERN_LINE;
         next[a] = set;
     }
     int new_bead = last == 0 || bead != (int32_t)last;
-    if (bead != (int32_t)last + new_bead || state != (new_bead ? 0 : (int32_t)last_state + 1)) return RUNIN_PATTERN_ORDER;
-    if (bead > MOST_BEADS || state >= MOST_STATES || final > 1) return RUNIN_PATTERN_ORDER;
+    if (bead != (int32_t)last + new_bead || state != (new_bead ? 0 : (int32_t)last_state + 1)) return RUNIN_REFUSED_PATTERN_ORDER;
+    if (bead > MOST_BEADS || state >= MOST_STATES || final > 1) return RUNIN_REFUSED_PATTERN_ORDER;
     unsigned rule = same(fields[1], "SOME") ? SOME : same(fields[1], "ALL") ? ALL : 0;
-    if (rule == 0) return RUNIN_PATTERN_RULE;
-    if (last > 0 && (rule == buffer[RULES + last - 1]) == new_bead) return RUNIN_PATTERN_RULE;
+    if (rule == 0) return RUNIN_REFUSED_PATTERN_RULE;
+    if (last > 0 && (rule == buffer[RULES + last - 1]) == new_bead) return RUNIN_REFUSED_PATTERN_RULE;
     buffer[1] = bead;
     buffer[RULES + bead - 1] = rule;
     buffer[STATE_COUNTS + bead - 1] = state + 1;
@@ -71,8 +71,8 @@ static uint64_t next_sets(const uint16_t *buffer) {
                 lacks |= next[a] >> states;
                 not_one |= next[a] == 0 || next[a] & (next[a] - 1);
             }
-            if (lacks) return answer(RUNIN_NEXT_STATE, line, 0);
-            if (rule == ALL && not_one) return answer(RUNIN_NEXT_COUNT, line, 0);
+            if (lacks) return answer(RUNIN_REFUSED_NEXT_STATE, line, 0);
+            if (rule == ALL && not_one) return answer(RUNIN_REFUSED_NEXT_COUNT, line, 0);
         }
     }
     return 0;
@@ -85,16 +85,16 @@ static uint64_t pattern_refusal(const uint8_t *text, size_t text_len, unsigned n
 uint64_t plain_read_pattern(const uint8_t *text, size_t text_len, uint16_t *pattern, size_t pattern_len) {
     struct bytes fields[MOST_LINE + 1];
     uint16_t buffer[RUNIN_PATTERN_LENGTH] = {0};
-    if (pattern_len < RUNIN_PATTERN_LENGTH) return answer(RUNIN_PATTERN_SHORT, 0, 0);
-    if (text_len == 0 || text_len > 16384) return answer(RUNIN_PATTERN_SIZE, 0, 0);
+    if (pattern_len < RUNIN_PATTERN_LENGTH) return answer(RUNIN_REFUSED_PATTERN_SHORT, 0, 0);
+    if (text_len == 0 || text_len > RUNIN_MOST_PATTERN_TEXT) return answer(RUNIN_REFUSED_PATTERN_SIZE, 0, 0);
     unsigned line = 1, state = 0;
     for (size_t at = 0; at < text_len; line++) {
         int len = line_length(text + at, text_len - at);
-        if (len < 0) return pattern_refusal(text, text_len, RUNIN_PATTERN_LINE, line, buffer);
+        if (len < 0) return pattern_refusal(text, text_len, RUNIN_REFUSED_PATTERN_LINE, line, buffer);
         unsigned count = split(text + at, len, fields);
         if (line == 1) {
             buffer[0] = pattern_header(fields, count);
-            if (buffer[0] == 0) return pattern_refusal(text, text_len, RUNIN_PATTERN_HEADER, 1, buffer);
+            if (buffer[0] == 0) return pattern_refusal(text, text_len, RUNIN_REFUSED_PATTERN_HEADER, 1, buffer);
         } else {
             unsigned number = pattern_row(fields, count, buffer[0], state, buffer);
             if (number) return pattern_refusal(text, text_len, number, line, buffer);
@@ -102,7 +102,7 @@ uint64_t plain_read_pattern(const uint8_t *text, size_t text_len, uint16_t *patt
         }
         at += len + 1;
     }
-    if (buffer[1] == 0) return answer(RUNIN_PATTERN_ORDER, 1, 0);
+    if (buffer[1] == 0) return answer(RUNIN_REFUSED_PATTERN_ORDER, 1, 0);
     uint64_t late = next_sets(buffer);
     if (late) return pattern_refusal(text, text_len, RUNIN_NUMBER(late), RUNIN_LINE(late), buffer);
     memcpy(pattern, buffer, sizeof buffer);
@@ -145,17 +145,17 @@ static int links_of(struct bytes field, unsigned v, uint16_t *links, int *rising
 /* The line of step v. 0, or the refusal. */
 static unsigned log_step(const struct bytes *fields, unsigned fields_count, const unsigned *place, unsigned label_count, unsigned v,
                          uint16_t *buffer) {
-    if (fields_count != 4) return RUNIN_LOG_LINE;
+    if (fields_count != 4) return RUNIN_REFUSED_LOG_LINE;
     int32_t vertex = number(fields[place[0]]), board = number(fields[place[1]]), labels = number(fields[place[2]]);
-    if (vertex < 0 || board < 0 || board > 255 || labels < 0) return RUNIN_LOG_LINE;
+    if (vertex < 0 || board < 0 || board > 255 || labels < 0) return RUNIN_REFUSED_LOG_LINE;
     uint16_t links[8];
     int none = same(fields[place[3]], "-"), rising = 1;
     int count = none ? 0 : links_of(fields[place[3]], v, links, &rising);
-    if (count < 0) return RUNIN_LOG_LINE;
-    if (vertex != (int32_t)v) return RUNIN_STEP_NUMBER;
-    if (none != (v == 0) || !rising) return RUNIN_LINKS;
-    if (v == 0 ? labels != 0 : labels >> label_count != 0) return RUNIN_LABELS;
-    if (count > 8 || v >= MOST_STEPS || buffer[BEGINS + v] + count > MOST_LINKS) return RUNIN_LOG_LIMIT;
+    if (count < 0) return RUNIN_REFUSED_LOG_LINE;
+    if (vertex != (int32_t)v) return RUNIN_REFUSED_STEP_NUMBER;
+    if (none != (v == 0) || !rising) return RUNIN_REFUSED_LINKS;
+    if (v == 0 ? labels != 0 : labels >> label_count != 0) return RUNIN_REFUSED_LABELS;
+    if (count > 8 || v >= MOST_STEPS || buffer[BEGINS + v] + count > MOST_LINKS) return RUNIN_REFUSED_LOG_LIMIT;
     unsigned begin = buffer[BEGINS + v];
     buffer[0] = v + 1;
     buffer[LABELS + v] = labels;
@@ -173,23 +173,23 @@ uint64_t plain_read_log(const uint8_t *text, size_t text_len, uint16_t label_cou
     struct bytes fields[MOST_LINE + 1];
     uint16_t buffer[RUNIN_LOG_LENGTH] = {0};
     unsigned place[4] = {0};
-    if (log_len < RUNIN_LOG_LENGTH) return answer(RUNIN_LOG_SHORT, 0, 0);
-    if (label_count < 1 || label_count > MOST_LABELS) return answer(RUNIN_LABEL_COUNT, 0, 0);
-    if (text_len == 0 || text_len > 65535) return answer(RUNIN_LOG_SIZE, 0, 0);
+    if (log_len < RUNIN_LOG_LENGTH) return answer(RUNIN_REFUSED_LOG_SHORT, 0, 0);
+    if (label_count < 1 || label_count > MOST_LABELS) return answer(RUNIN_REFUSED_LABEL_COUNT, 0, 0);
+    if (text_len == 0 || text_len > RUNIN_MOST_LOG_TEXT) return answer(RUNIN_REFUSED_LOG_SIZE, 0, 0);
     unsigned line = 1;
     for (size_t at = 0; at < text_len; line++) {
         int len = line_length(text + at, text_len - at);
-        if (len < 0) return log_refusal(text, text_len, RUNIN_LOG_LINE, line, place, buffer);
+        if (len < 0) return log_refusal(text, text_len, RUNIN_REFUSED_LOG_LINE, line, place, buffer);
         unsigned count = split(text + at, len, fields);
         if (line == 1) {
-            if (!log_header(fields, count, place)) return log_refusal(text, text_len, RUNIN_LOG_HEADER, 1, place, buffer);
+            if (!log_header(fields, count, place)) return log_refusal(text, text_len, RUNIN_REFUSED_LOG_HEADER, 1, place, buffer);
         } else {
             unsigned number = log_step(fields, count, place, label_count, line - 2, buffer);
             if (number) return log_refusal(text, text_len, number, line, place, buffer);
         }
         at += len + 1;
     }
-    if (buffer[0] == 0) return answer(RUNIN_LOG_LIMIT, 1, 0);
+    if (buffer[0] == 0) return answer(RUNIN_REFUSED_LOG_LIMIT, 1, 0);
     memcpy(log, buffer, sizeof buffer);
     return answer(0, 0, buffer[0]);
 }

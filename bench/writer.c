@@ -60,11 +60,11 @@ static void put_rows(const uint16_t *pattern, uint8_t *at) {
 
 uint64_t plain_write_pattern(const uint16_t *pattern, size_t pattern_len, const uint8_t *header, size_t header_len,
                              uint8_t *text, size_t text_len) {
-    if (pattern_len < RUNIN_PATTERN_LENGTH) return answer(RUNIN_PATTERN_SHORT, 0, 0);
-    if (!is_pattern(pattern)) return answer(RUNIN_NO_PATTERN, 0, 0);
-    if (header_labels(header, header_len) != pattern[0]) return refusal(RUNIN_PATTERN_HEADER, 1, header_place(header, header_len));
+    if (pattern_len < RUNIN_PATTERN_LENGTH) return answer(RUNIN_REFUSED_PATTERN_SHORT, 0, 0);
+    if (!is_pattern(pattern)) return answer(RUNIN_REFUSED_NO_PATTERN, 0, 0);
+    if (header_labels(header, header_len) != pattern[0]) return refusal(RUNIN_REFUSED_PATTERN_HEADER, 1, header_place(header, header_len));
     size_t length = header_len + rows_length(pattern);
-    if (text_len < length) return answer(RUNIN_TEXT_SHORT, 0, 0);
+    if (text_len < length) return answer(RUNIN_REFUSED_TEXT_SHORT, 0, 0);
     memcpy(text, header, header_len);
     put_rows(pattern, text + header_len);
     return answer(0, 0, length);
@@ -100,11 +100,11 @@ static void put_steps(const uint16_t *log, uint8_t *at) {
 }
 
 uint64_t plain_write_log(const uint16_t *log, size_t log_len, uint16_t label_count, uint8_t *text, size_t text_len) {
-    if (log_len < RUNIN_LOG_LENGTH) return answer(RUNIN_LOG_SHORT, 0, 0);
-    if (label_count < 1 || label_count > MOST_LABELS) return answer(RUNIN_LABEL_COUNT, 0, 0);
-    if (!is_log(log, label_count)) return answer(RUNIN_NO_LOG, 0, 0);
+    if (log_len < RUNIN_LOG_LENGTH) return answer(RUNIN_REFUSED_LOG_SHORT, 0, 0);
+    if (label_count < 1 || label_count > MOST_LABELS) return answer(RUNIN_REFUSED_LABEL_COUNT, 0, 0);
+    if (!is_log(log, label_count)) return answer(RUNIN_REFUSED_NO_LOG, 0, 0);
     size_t length = strlen(log_names) + steps_length(log);
-    if (text_len < length) return answer(RUNIN_TEXT_SHORT, 0, 0);
+    if (text_len < length) return answer(RUNIN_REFUSED_TEXT_SHORT, 0, 0);
     put_steps(log, put_word(text, log_names));
     return answer(0, 0, length);
 }

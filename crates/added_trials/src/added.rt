@@ -1,9 +1,8 @@
 // With one bead, links and labels that are only added take no SOME away and give no ALL back. A first label on a bare step is no such
 // addition: it takes the empty letter away, and a SOME may be lost.
 use crate::change::ChangeCounts;
-use changed_logs::{add_everywhere, label_bare};
 use judged_pairs::Pair;
-use random_inputs::Links;
+use random_inputs::{Links, add_everywhere, label_bare};
 use std::fmt;
 use trial::Random;
 

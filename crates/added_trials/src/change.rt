@@ -1,6 +1,6 @@
 // The judge on a log and on a changed one, with a pattern of one bead.
 use judged_pairs::{Noise, Pair};
-use places::Rule;
+use random_inputs::Rule;
 use std::fmt;
 use std::num::Wrapping;
 

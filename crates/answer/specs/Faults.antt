@@ -1,4 +1,5 @@
--- The refusals of a call, listed in document 01's order: the first that applies is the answer. The answer, and each lent room at exit, follow from it.
+-- The refusals of a call, listed in document 01's order: the first that applies is the answer. The answer, and each lent room at exit, follow from
+-- it.
 use Rattle.std.specs.Prelude.{ℕ, Bool, cond, List, [], ◌∷◌}
 use Rattle.std.proofs.Math.Option.{Option, none, some}
 use Rattle.answer.specs.declared.Answer.{Answer}

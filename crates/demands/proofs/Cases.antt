@@ -1,11 +1,12 @@
 -- The cases that document 01 marks P, as texts, through the definitions that the contracts cite: one claim over a list of them.
 -- Assumes nothing.
-use Prim.Native.Nat.{ℕ, zero, suc, ◌+◌, ◌/◌, ◌%◌, ◌<◌}
+use Prim.Native.Nat.{ℕ, zero, suc, ◌+◌, ◌/◌, ◌%◌, ◌<◌, ◌*◌}
 use mathlib.Core.Path.{◌≡◌, refl, sym, ap, ◌∙◌, fun_ext}
 use mathlib.Core.List.{List, [], ◌∷◌, ◌++◌, map}
 use native.Mathlib.Nat.{zero-add}
 use native.Mathlib.Omega.{arith}
 use lib.ListN.{length, get_or, take, replicate}
+use Rattle.rules.specs.Rules.{rules, rule_in, is_rule_in, one_next_in}
 use Rattle.sets.specs.Sets.{set_of, some_below, members_from}
 use Rattle.lists.specs.Tables.{table}
 use Rattle.lists.proofs.Tables.{table_is}
@@ -15,7 +16,7 @@ use Rattle.fields.specs.Fields.{same_bytes}
 use Rattle.numbers.specs.Numbers.{digits, value_from, decimal}
 use Rattle.text.specs.Walk.{Outcome, accepted, faulty, walk}
 use Rattle.pattern_header.specs.Header.{same_fields, name_bytes, are_names, among, distinct}
-use Rattle.pattern_order.specs.Row.{follows_last, breaks_turns}
+use Rattle.pattern_order.specs.StateLine.{follows_last, breaks_turns}
 use Rattle.pattern_store.specs.Next.{states_of, all_within, all_single}
 use Rattle.pattern_store.specs.Format.{Known as PatternKnown, pattern_text}
 use Rattle.pattern_store.specs.Buffer.{bead_count, rule_of_bead, accepting_of, next_of, buffer_of as pattern_buffer}
@@ -24,11 +25,17 @@ use Rattle.numbers.specs.Listed.{are_numbers}
 use Rattle.log_line.specs.Step.{rising_below, link_count}
 use Rattle.log_line.specs.Format.{Known as LogKnown, log_text}
 use Rattle.log_store.specs.Buffer.{begins, links, buffer_of as log_buffer}
-use Rattle.pattern_buffer.specs.Meaning.{pattern_of}
-use Rattle.log_buffer.specs.Meaning.{log_of}
+use Rattle.pattern_buffer.specs.Meaning.{pattern_of, modalities, modality_in}
+use Rattle.log_buffer.specs.Meaning.{log_of, log_of_room}
 use Rattle.necklace.specs.Compute.{row, prefixes, pivots, before, seek, holds?, some?, all?, backward, pass}
+use Rattle.layout.specs.Layout.{most_beads, most_states, sets_a_bead, sets_a_state}
 
 -- The listing's pattern.
+--     bead rule state final vac hot vent
+--     1 SOME 0 0 3 1 1
+--     1 SOME 1 1 0 0 0
+--     2 ALL 0 1 1 1 2
+--     2 ALL 1 0 2 2 2
 unfoldable pub listing_pattern : List ℕ
 listing_pattern =
     98 ∷ 101 ∷ 97 ∷ 100 ∷ 32 ∷ 114 ∷ 117 ∷ 108 ∷ 101 ∷ 32 ∷ 115 ∷ 116 ∷ 97 ∷ 116 ∷ 101 ∷ 32 ∷ 102 ∷ 105 ∷ 110 ∷ 97 ∷ 108 ∷ 32 ∷ 118 ∷ 97 ∷ 99 ∷ 32 ∷ 104 ∷ 111 ∷ 116 ∷ 32 ∷ 118 ∷ 101 ∷ 110 ∷ 116 ∷ 10
@@ -38,6 +45,9 @@ listing_pattern =
     ∷ 50 ∷ 32 ∷ 65 ∷ 76 ∷ 76 ∷ 32 ∷ 49 ∷ 32 ∷ 48 ∷ 32 ∷ 50 ∷ 32 ∷ 50 ∷ 32 ∷ 50 ∷ 10 ∷ []
 
 -- The listing's second table as one ALL bead: state 0 is final.
+--     bead rule state final vac hot vent
+--     1 ALL 0 1 1 1 2
+--     1 ALL 1 0 2 2 2
 unfoldable pub all_clean : List ℕ
 all_clean =
     98 ∷ 101 ∷ 97 ∷ 100 ∷ 32 ∷ 114 ∷ 117 ∷ 108 ∷ 101 ∷ 32 ∷ 115 ∷ 116 ∷ 97 ∷ 116 ∷ 101 ∷ 32 ∷ 102 ∷ 105 ∷ 110 ∷ 97 ∷ 108 ∷ 32 ∷ 118 ∷ 97 ∷ 99 ∷ 32 ∷ 104 ∷ 111 ∷ 116 ∷ 32 ∷ 118 ∷ 101 ∷ 110 ∷ 116 ∷ 10
@@ -45,6 +55,9 @@ all_clean =
     ∷ 49 ∷ 32 ∷ 65 ∷ 76 ∷ 76 ∷ 32 ∷ 49 ∷ 32 ∷ 48 ∷ 32 ∷ 50 ∷ 32 ∷ 50 ∷ 32 ∷ 50 ∷ 10 ∷ []
 
 -- The same table as one SOME bead.
+--     bead rule state final vac hot vent
+--     1 SOME 0 1 1 1 2
+--     1 SOME 1 0 2 2 2
 unfoldable pub some_clean : List ℕ
 some_clean =
     98 ∷ 101 ∷ 97 ∷ 100 ∷ 32 ∷ 114 ∷ 117 ∷ 108 ∷ 101 ∷ 32 ∷ 115 ∷ 116 ∷ 97 ∷ 116 ∷ 101 ∷ 32 ∷ 102 ∷ 105 ∷ 110 ∷ 97 ∷ 108 ∷ 32 ∷ 118 ∷ 97 ∷ 99 ∷ 32 ∷ 104 ∷ 111 ∷ 116 ∷ 32 ∷ 118 ∷ 101 ∷ 110 ∷ 116 ∷ 10
@@ -52,6 +65,9 @@ some_clean =
     ∷ 49 ∷ 32 ∷ 83 ∷ 79 ∷ 77 ∷ 69 ∷ 32 ∷ 49 ∷ 32 ∷ 48 ∷ 32 ∷ 50 ∷ 32 ∷ 50 ∷ 32 ∷ 50 ∷ 10 ∷ []
 
 -- One SOME bead whose state 0 is not final.
+--     bead rule state final vac hot vent
+--     1 SOME 0 0 1 1 2
+--     1 SOME 1 1 2 2 2
 unfoldable pub some_vented : List ℕ
 some_vented =
     98 ∷ 101 ∷ 97 ∷ 100 ∷ 32 ∷ 114 ∷ 117 ∷ 108 ∷ 101 ∷ 32 ∷ 115 ∷ 116 ∷ 97 ∷ 116 ∷ 101 ∷ 32 ∷ 102 ∷ 105 ∷ 110 ∷ 97 ∷ 108 ∷ 32 ∷ 118 ∷ 97 ∷ 99 ∷ 32 ∷ 104 ∷ 111 ∷ 116 ∷ 32 ∷ 118 ∷ 101 ∷ 110 ∷ 116 ∷ 10
@@ -59,6 +75,14 @@ some_vented =
     ∷ 49 ∷ 32 ∷ 83 ∷ 79 ∷ 77 ∷ 69 ∷ 32 ∷ 49 ∷ 32 ∷ 49 ∷ 32 ∷ 50 ∷ 32 ∷ 50 ∷ 32 ∷ 50 ∷ 10 ∷ []
 
 -- The listing's log.
+--     vertex board labels preds
+--     0 0 0 -
+--     1 1 1 0
+--     2 2 4 0,1
+--     3 1 2 1
+--     4 2 2 2,3
+--     5 1 0 3
+--     6 3 0 1
 unfoldable pub listing_log : List ℕ
 listing_log =
     118 ∷ 101 ∷ 114 ∷ 116 ∷ 101 ∷ 120 ∷ 32 ∷ 98 ∷ 111 ∷ 97 ∷ 114 ∷ 100 ∷ 32 ∷ 108 ∷ 97 ∷ 98 ∷ 101 ∷ 108 ∷ 115 ∷ 32 ∷ 112 ∷ 114 ∷ 101 ∷ 100 ∷ 115 ∷ 10
@@ -71,12 +95,17 @@ listing_log =
     ∷ 54 ∷ 32 ∷ 51 ∷ 32 ∷ 48 ∷ 32 ∷ 49 ∷ 10 ∷ []
 
 -- Step 0 alone.
+--     vertex board labels preds
+--     0 0 0 -
 unfoldable pub start_alone : List ℕ
 start_alone =
     118 ∷ 101 ∷ 114 ∷ 116 ∷ 101 ∷ 120 ∷ 32 ∷ 98 ∷ 111 ∷ 97 ∷ 114 ∷ 100 ∷ 32 ∷ 108 ∷ 97 ∷ 98 ∷ 101 ∷ 108 ∷ 115 ∷ 32 ∷ 112 ∷ 114 ∷ 101 ∷ 100 ∷ 115 ∷ 10
     ∷ 48 ∷ 32 ∷ 48 ∷ 32 ∷ 48 ∷ 32 ∷ 45 ∷ 10 ∷ []
 
 -- An unlabelled step 1.
+--     vertex board labels preds
+--     0 0 0 -
+--     1 0 0 0
 unfoldable pub bare_step : List ℕ
 bare_step =
     118 ∷ 101 ∷ 114 ∷ 116 ∷ 101 ∷ 120 ∷ 32 ∷ 98 ∷ 111 ∷ 97 ∷ 114 ∷ 100 ∷ 32 ∷ 108 ∷ 97 ∷ 98 ∷ 101 ∷ 108 ∷ 115 ∷ 32 ∷ 112 ∷ 114 ∷ 101 ∷ 100 ∷ 115 ∷ 10
@@ -84,6 +113,9 @@ bare_step =
     ∷ 49 ∷ 32 ∷ 48 ∷ 32 ∷ 48 ∷ 32 ∷ 48 ∷ 10 ∷ []
 
 -- Step 1 with labels 5.
+--     vertex board labels preds
+--     0 0 0 -
+--     1 0 5 0
 unfoldable pub labels_five : List ℕ
 labels_five =
     118 ∷ 101 ∷ 114 ∷ 116 ∷ 101 ∷ 120 ∷ 32 ∷ 98 ∷ 111 ∷ 97 ∷ 114 ∷ 100 ∷ 32 ∷ 108 ∷ 97 ∷ 98 ∷ 101 ∷ 108 ∷ 115 ∷ 32 ∷ 112 ∷ 114 ∷ 101 ∷ 100 ∷ 115 ∷ 10
@@ -113,18 +145,18 @@ up_is f n = table_is f n (table_up f 0 n) (up_length f 0 n) (λ j h. up_at f 0 n
 unfoldable pub front_buffer : PatternKnown → List ℕ
 front_buffer k =
     (k.labels ∷ (bead_count k.rows ∷ []))
-    ++ (table_up (λ j. rule_of_bead k.rows (j + 1)) 0 8
-    ++ (table_up (λ j. states_of k.rows (j + 1)) 0 8
-    ++ (table_up (λ j. set_of 16 (accepting_of k.rows (j + 1))) 0 8
-    ++ table_up (λ i. next_of k.rows (i / 256 + 1) (i / 16 % 16) (i % 16)) 0 2048)))
+    ++ (table_up (λ j. rule_of_bead k.rows (j + 1)) 0 most_beads
+    ++ (table_up (λ j. states_of k.rows (j + 1)) 0 most_beads
+    ++ (table_up (λ j. set_of most_states (accepting_of k.rows (j + 1))) 0 most_beads
+    ++ table_up (λ i. next_of k.rows (i / sets_a_bead + 1) (i / sets_a_state % most_states) (i % sets_a_state)) 0 (sets_a_bead * most_beads))))
 
 front_is : (k : PatternKnown) → pattern_buffer k ≡ front_buffer k
 unfolding front_buffer
 front_is k = rw (
-  up_is (λ j. rule_of_bead k.rows (j + 1)) 8,
-  up_is (λ j. states_of k.rows (j + 1)) 8,
-  up_is (λ j. set_of 16 (accepting_of k.rows (j + 1))) 8,
-  up_is (λ i. next_of k.rows (i / 256 + 1) (i / 16 % 16) (i % 16)) 2048,
+  up_is (λ j. rule_of_bead k.rows (j + 1)) most_beads,
+  up_is (λ j. states_of k.rows (j + 1)) most_beads,
+  up_is (λ j. set_of most_states (accepting_of k.rows (j + 1))) most_beads,
+  up_is (λ i. next_of k.rows (i / sets_a_bead + 1) (i / sets_a_state % most_states) (i % sets_a_state)) (sets_a_bead * most_beads),
 )
 
 -- A pattern's text, a log's text, a step, and its ten numbers.
@@ -136,7 +168,7 @@ pub record Case : Type 0 where
 
 -- The row that two texts give at a step: none where one of them is refused.
 abbrev pub row_under : PatternKnown → Outcome LogKnown → ℕ → List ℕ
-row_under k (accepted m) v = row (log_of (log_buffer m.steps)) (pattern_of (pattern_buffer k)) v
+row_under k (accepted m) v = row (log_of_room (log_buffer m.steps)) (pattern_of (pattern_buffer k)) v
 row_under k (faulty number line) v = []
 
 abbrev pub row_by : Outcome PatternKnown → List ℕ → ℕ → List ℕ
@@ -182,7 +214,7 @@ marked_count = refl
 -- ---- the claim
 
 abbrev pub front_row_under : PatternKnown → Outcome LogKnown → ℕ → List ℕ
-front_row_under k (accepted m) v = row (log_of (log_buffer m.steps)) (pattern_of (front_buffer k)) v
+front_row_under k (accepted m) v = row (log_of_room (log_buffer m.steps)) (pattern_of (front_buffer k)) v
 front_row_under k (faulty number line) v = []
 
 abbrev pub front_row_by : Outcome PatternKnown → List ℕ → ℕ → List ℕ
@@ -190,7 +222,7 @@ front_row_by (accepted k) log v = front_row_under k (log_text k.labels log) v
 front_row_by (faulty number line) log v = []
 
 same_under : (k : PatternKnown) (o : Outcome LogKnown) (v : ℕ) → row_under k o v ≡ front_row_under k o v
-same_under k (accepted m) v = ap (λ (b : List ℕ). row (log_of (log_buffer m.steps)) (pattern_of b) v) (front_is k)
+same_under k (accepted m) v = ap (λ (b : List ℕ). row (log_of_room (log_buffer m.steps)) (pattern_of b) v) (front_is k)
 same_under k (faulty number line) v = refl
 
 same_row : (o : Outcome PatternKnown) (log : List ℕ) (v : ℕ) → row_by o log v ≡ front_row_by o log v
@@ -201,7 +233,7 @@ pub rows_same : (cs : List Case) → map (λ c. row_of_texts c.pattern c.log c.s
 rows_same cs = ap (λ (f : Case → List ℕ). map f cs) (fun_ext (λ c. same_row (pattern_text c.pattern) c.log c.step))
 
 computed : map (λ c. front_row_by (pattern_text c.pattern) c.log c.step) marked ≡ map (λ c. c.numbers) marked
-unfolding marked listing_pattern all_clean some_clean some_vented listing_log start_alone bare_step labels_five walk as_lines split printable digits value_from decimal same_fields name_bytes are_names among distinct follows_last breaks_turns states_of all_within all_single members_from place_of are_numbers rising_below link_count begins links table_up front_buffer bead_count rule_of_bead accepting_of next_of set_of some_below log_of pattern_of row prefixes pivots before seek holds? some? all? backward pass
+unfolding marked listing_pattern all_clean some_clean some_vented listing_log start_alone bare_step labels_five walk as_lines split printable digits value_from decimal same_fields name_bytes are_names among distinct rules rule_in is_rule_in one_next_in follows_last breaks_turns states_of all_within all_single members_from place_of are_numbers rising_below link_count begins links table_up front_buffer bead_count rule_of_bead accepting_of next_of set_of some_below log_of pattern_of modalities modality_in row prefixes pivots before seek holds? some? all? backward pass
 computed = refl
 
 -- Each case marked P has its ten numbers.

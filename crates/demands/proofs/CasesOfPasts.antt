@@ -9,6 +9,7 @@ use native.Mathlib.Omega.{arith}
 use lib.Dec.{T}
 use lib.ListN.{length, get_or, take, length-replicate}
 use lib.Seq.{take_all}
+use Rattle.rules.specs.Rules.{rules, rule_in, is_rule_in, one_next_in}
 use Rattle.lists.specs.Places.{at}
 use Rattle.sets.specs.Sets.{set_of, some_below, all_below, members_from}
 use Rattle.sets.proofs.Truth.{true_yes}
@@ -20,18 +21,18 @@ use Rattle.numbers.specs.Numbers.{digits, value_from, decimal}
 use Rattle.text.specs.Walk.{Outcome, accepted, faulty, walk}
 use Rattle.layout.specs.Layout.{rule_at, pattern_length, board_at, log_length, result_length, work_length}
 use Rattle.pattern_header.specs.Header.{same_fields, name_bytes, are_names, among, distinct}
-use Rattle.pattern_order.specs.Row.{follows_last, breaks_turns}
+use Rattle.pattern_order.specs.StateLine.{follows_last, breaks_turns}
 use Rattle.pattern_store.specs.Next.{states_of, all_within, all_single}
 use Rattle.pattern_store.specs.Format.{Known as PatternKnown, pattern_text}
 use Rattle.pattern_store.specs.Buffer.{bead_count, rule_of_bead, accepting_of, next_of, buffer_of as pattern_buffer}
-use Rattle.pattern_buffer.specs.Meaning.{beads_in, pattern_of}
+use Rattle.pattern_buffer.specs.Meaning.{beads_in, pattern_of, modalities, modality_in}
 use Rattle.pattern_texts.proofs.Buffers.{length_buffer}
 use Rattle.log_line.specs.Header.{place_of}
 use Rattle.numbers.specs.Listed.{are_numbers}
 use Rattle.log_line.specs.Step.{rising_below, link_count}
 use Rattle.log_line.specs.Format.{Known as LogKnown, log_text}
 use Rattle.log_store.specs.Buffer.{begins, links, buffer_of as log_buffer}
-use Rattle.log_buffer.specs.Meaning.{steps_in, log_of}
+use Rattle.log_buffer.specs.Meaning.{steps_in, log_of, label_sets, log_of_room}
 use Rattle.log_texts.proofs.LogBuffers.{given_passes}
 use Rattle.log_buffer.proofs.Meaning.{size_is, log_well_formed}
 use Rattle.necklace.specs.Dag.{Dag, WellFormed}
@@ -49,6 +50,13 @@ use Rattle.demands.proofs.Cases.{listing_pattern, some_clean, listing_log, Case,
 
 -- The listing's log without its last step, with another board at each step, and with other labels and links at steps 2 and 4: the past of
 -- step 5, which is 0, 1, 3 and 5, is as it was.
+--     vertex board labels preds
+--     0 7 0 -
+--     1 0 1 0
+--     2 9 1 1
+--     3 5 2 1
+--     4 0 4 0
+--     5 255 0 3
 unfoldable pub shorter_log : List ℕ
 shorter_log =
     118 ∷ 101 ∷ 114 ∷ 116 ∷ 101 ∷ 120 ∷ 32 ∷ 98 ∷ 111 ∷ 97 ∷ 114 ∷ 100 ∷ 32 ∷ 108 ∷ 97 ∷ 98 ∷ 101 ∷ 108 ∷ 115 ∷ 32 ∷ 112 ∷ 114 ∷ 101 ∷ 100 ∷ 115 ∷ 10
@@ -60,6 +68,14 @@ shorter_log =
     ∷ 53 ∷ 32 ∷ 50 ∷ 53 ∷ 53 ∷ 32 ∷ 48 ∷ 32 ∷ 51 ∷ 10 ∷ []
 
 -- The listing's log with a link and a label more at step 3: from step 2, and vent.
+--     vertex board labels preds
+--     0 0 0 -
+--     1 1 1 0
+--     2 2 4 0,1
+--     3 1 6 1,2
+--     4 2 2 2,3
+--     5 1 0 3
+--     6 3 0 1
 unfoldable pub more_log : List ℕ
 more_log =
     118 ∷ 101 ∷ 114 ∷ 116 ∷ 101 ∷ 120 ∷ 32 ∷ 98 ∷ 111 ∷ 97 ∷ 114 ∷ 100 ∷ 32 ∷ 108 ∷ 97 ∷ 98 ∷ 101 ∷ 108 ∷ 115 ∷ 32 ∷ 112 ∷ 114 ∷ 101 ∷ 100 ∷ 115 ∷ 10
@@ -119,18 +135,18 @@ unfolding listing_log shorter_log walk as_lines split printable digits value_fro
 other_boards = refl
 
 three : (labels_by (pattern_text listing_pattern) ≡ 3) × (labels_by (pattern_text some_clean) ≡ 3)
-unfolding listing_pattern some_clean walk as_lines split printable digits value_from decimal same_fields name_bytes are_names among distinct are_numbers follows_last breaks_turns states_of all_within all_single bead_count members_from
+unfolding listing_pattern some_clean walk as_lines split printable digits value_from decimal same_fields name_bytes are_names among distinct are_numbers rules rule_in is_rule_in one_next_in follows_last breaks_turns states_of all_within all_single bead_count members_from
 three = (refl, refl)
 
 some_one : (beads_in (pattern_from some_clean) ≡ 1) × (at (pattern_from some_clean) (rule_at 0) ≡ 1)
-unfolding some_clean walk as_lines split printable digits value_from decimal same_fields name_bytes are_names among distinct are_numbers follows_last breaks_turns states_of all_within all_single bead_count members_from table rule_of_bead
+unfolding some_clean walk as_lines split printable digits value_from decimal same_fields name_bytes are_names among distinct are_numbers rules rule_in is_rule_in one_next_in follows_last breaks_turns states_of all_within all_single bead_count members_from table rule_of_bead
 some_one = (refl, refl)
 
-alike_computed : alike? (log_of (log_from listing_log)) (log_of (log_from shorter_log)) 5 ≡ true
+alike_computed : alike? (log_of_room (log_from listing_log)) (log_of_room (log_from shorter_log)) 5 ≡ true
 unfolding listing_log shorter_log walk as_lines split printable digits value_from decimal place_of are_numbers rising_below link_count begins links members_from some_below all_below log_of some? backward pass route? past? alike?
 alike_computed = refl
 
-adds_computed : only_adds? (log_of (log_from listing_log)) (log_of (log_from more_log)) ≡ true
+adds_computed : only_adds? (log_of_room (log_from listing_log)) (log_of_room (log_from more_log)) ≡ true
 unfolding listing_log more_log walk as_lines split printable digits value_from decimal place_of are_numbers rising_below link_count begins links members_from all_below log_of only_adds?
 adds_computed = refl
 
@@ -147,7 +163,7 @@ unfolding shown
 shown_count = refl
 
 front_shown : map (λ c. front_row_by (pattern_text c.pattern) c.log c.step) shown ≡ map (λ c. c.numbers) shown
-unfolding shown listing_pattern some_clean listing_log shorter_log more_log walk as_lines split printable digits value_from decimal place_of are_numbers rising_below link_count begins links same_fields name_bytes are_names among distinct follows_last breaks_turns states_of all_within all_single bead_count members_from table_up front_buffer rule_of_bead accepting_of next_of set_of some_below log_of pattern_of row prefixes pivots before seek holds? some? all? backward pass
+unfolding shown listing_pattern some_clean listing_log shorter_log more_log walk as_lines split printable digits value_from decimal place_of are_numbers rising_below link_count begins links same_fields name_bytes are_names among distinct rules rule_in is_rule_in one_next_in follows_last breaks_turns states_of all_within all_single bead_count members_from table_up front_buffer rule_of_bead accepting_of next_of set_of some_below log_of pattern_of modalities modality_in row prefixes pivots before seek holds? some? all? backward pass
 front_shown = refl
 
 pub shown_rows : map (λ c. row_of_texts c.pattern c.log c.step) shown ≡ map (λ c. c.numbers) shown
@@ -174,8 +190,8 @@ module _ (lt : List ℕ) (fills : length (log_from lt) ≡ log_length) where
   log_gives : take log_length (log_from lt) ≡ log_buffer read_log.0.steps
   log_gives = log_front ∙ ap log_by read_log.1
 
-  same_log : log_in (log_from lt) ≡ log_of (log_from lt)
-  same_log = ap log_of log_front
+  same_log : log_in (log_from lt) ≡ log_of_room (log_from lt)
+  same_log = ap (λ (b : List ℕ). log_of_room b) log_front
 
   sound_log : WellFormed 3 (log_in (log_from lt))
   sound_log =
@@ -232,7 +248,7 @@ module _ (pt : List ℕ) (known : labels_by (pattern_text pt) ≡ 3) where
 pub alike_logs : Alike (log_in (log_from listing_log)) (log_in (log_from shorter_log)) 5
 alike_logs =
     (alike_agrees (sound_log listing_log long.0) (sound_log shorter_log long.1) 5).0
-    (rw (same_log listing_log long.0, same_log shorter_log long.1) (true_yes (alike? (log_of (log_from listing_log)) (log_of (log_from shorter_log)) 5) alike_computed))
+    (rw (same_log listing_log long.0, same_log shorter_log long.1) (true_yes (alike? (log_of_room (log_from listing_log)) (log_of_room (log_from shorter_log)) 5) alike_computed))
 
 pub alike_judged : AcceptedTexts listing_pattern listing_log × AcceptedTexts listing_pattern shorter_log
 alike_judged = (judged listing_pattern three.0 listing_log long.0, judged listing_pattern three.0 shorter_log long.1)
@@ -250,14 +266,14 @@ alike_row = row_of listing_pattern three.0 shorter_log long.1 5 alike_logs.right
 pub adds_logs : OnlyAdds (log_in (log_from listing_log)) (log_in (log_from more_log))
 adds_logs =
     (only_adds_agrees (sound_log listing_log long.0) (sound_log more_log long.2)).0
-    (rw (same_log listing_log long.0, same_log more_log long.2) (true_yes (only_adds? (log_of (log_from listing_log)) (log_of (log_from more_log))) adds_computed))
+    (rw (same_log listing_log long.0, same_log more_log long.2) (true_yes (only_adds? (log_of_room (log_from listing_log)) (log_of_room (log_from more_log))) adds_computed))
 
 pub adds_judged : AcceptedTexts some_clean listing_log × AcceptedTexts some_clean more_log
 adds_judged = (judged some_clean three.1 listing_log long.0, judged some_clean three.1 more_log long.2)
 
 adds_inside : 3 < (log_in (log_from listing_log)).size
 adds_inside =
-    let e = ap (λ (G : Dag). G.size) (same_log listing_log long.0) ∙ size_is (log_from listing_log) ∙ ap (λ (l : List ℕ). get_or l 0 0) other_sizes in
+    let e = ap (λ (G : Dag). G.size) (same_log listing_log long.0) ∙ size_is (log_from listing_log) (label_sets (log_from listing_log)) ∙ ap (λ (l : List ℕ). get_or l 0 0) other_sizes in
     omega arith
 
 pub adds_held : T (rule_holds (result_of some_clean listing_log) 3)

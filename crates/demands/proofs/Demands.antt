@@ -24,11 +24,10 @@ use Rattle.necklace.proofs.Here as Here
 use Rattle.necklace.proofs.EqualPasts as EqualPasts
 use Rattle.necklace.proofs.OnlyAdds as OnlyAdds
 use Rattle.necklace.proofs.Duality.{dual_rows}
-use Rattle.layout.specs.Layout.{most_states, rule_at, states_at, accepting_at, next_at, pattern_length, log_length}
+use Rattle.layout.specs.Layout.{most_labels, most_states, rule_at, states_at, accepting_at, next_at, pattern_length, log_length}
 use Rattle.pattern_buffer.specs.Meaning.{labels_in, beads_in, modality_of, automaton_of, pattern_of}
 use Rattle.pattern_buffer.specs.Valid.{is_pattern}
-use Rattle.pattern_buffer.proofs.Meaning.{pattern_well_formed}
-use Rattle.log_buffer.specs.Meaning.{log_of}
+use Rattle.pattern_buffer.proofs.Meaning.{pattern_well_formed, rule_some, rule_all}
 use Rattle.log_buffer.specs.Valid.{is_log}
 use Rattle.log_buffer.proofs.Meaning.{log_well_formed}
 use Rattle.judging.specs.Judge.{pattern_in, log_in, judge_answer, accepts, result_after}
@@ -53,7 +52,8 @@ exchanged_automaton : (p q : List ℕ) → Exchanged p q → automaton_of q 0 �
 exchanged_automaton p q x = λ i. record { states = x.states i; next = nexts i; accepting = finals i }
   where
     nexts : ◌≡◌ {A = ℕ → ℕ → List ℕ} (automaton_of q 0).next (automaton_of p 0).next
-    nexts = fun_ext (λ s. fun_ext (λ a. ap (members most_states) (x.next (next_at 0 s a) (omega arith))))
+    nexts =
+        fun_ext (λ s. fun_ext (λ a. ap (λ (set : ℕ). cond (ltb s most_states && ltb a most_labels) (members most_states set) []) (x.next (next_at 0 s a) (omega arith))))
 
     finals : ◌≡◌ {A = ℕ → Bool} (automaton_of q 0).accepting (exchange (automaton_of p 0)).accepting
     finals = fun_ext (λ r. ap (member r) x.accepting ∙ accepting_exchanged (at p (states_at 0)) (at p (accepting_at 0)) r)
@@ -122,11 +122,11 @@ module _ (pattern log₁ result₁ work₁ log₂ result₂ work₂ : List ℕ) 
 
   pub only_adds_some : at (take pattern_length pattern) (rule_at 0) ≡ 1 → T (rule_holds (result_after pattern log₁ result₁ work₁) v) → T (rule_holds (result_after pattern log₂ result₂ work₂) v)
   unfolding pattern_of
-  only_adds_some r x = rw second (adds.0 (rw r) (rw first at x))
+  only_adds_some r x = rw second (adds.0 (rule_some (at (take pattern_length pattern) (rule_at 0)) r) (rw first at x))
 
   pub only_adds_all : at (take pattern_length pattern) (rule_at 0) ≡ 2 → (T (rule_holds (result_after pattern log₁ result₁ work₁) v) → ⊥) → T (rule_holds (result_after pattern log₂ result₂ work₂) v) → ⊥
   unfolding pattern_of
-  only_adds_all r f x = adds.1 (rw r) (λ y. f (rw first y)) (rw second at x)
+  only_adds_all r f x = adds.1 (rule_all (at (take pattern_length pattern) (rule_at 0)) r) (λ y. f (rw first y)) (rw second at x)
 
 -- The dual property: SOME is the denial of ALL with final and other states exchanged.
 -- `Exchanges.dual_every` says it of every pattern that has such a partner.
@@ -134,11 +134,11 @@ module _ (p q log result work : List ℕ) (x : Exchanged (take pattern_length p)
     (t : T (accepts p log result work)) (u : T (accepts q log result work)) (v : ℕ) (h : v < (log_in log).size) where
   some_bead : ((pattern_in p).bead 0).modality ≡ SOME
   unfolding pattern_of
-  some_bead = rw x.some_rule
+  some_bead = rule_some (at (take pattern_length p) (rule_at 0)) x.some_rule
 
   all_bead : ((pattern_in q).bead 0).modality ≡ ALL
   unfolding pattern_of
-  all_bead = rw x.all_rule
+  all_bead = rule_all (at (take pattern_length q) (rule_at 0)) x.all_rule
 
   other_states : ((pattern_in q).bead 0).automaton ≡ exchange ((pattern_in p).bead 0).automaton
   unfolding pattern_of

@@ -2,20 +2,24 @@
 -- `Exchanged` between the two. So the dual property speaks of every such pattern.
 -- Assumes nothing.
 use Prim.Native.Nat.{ℕ, zero, suc, ◌-◌, ◌^◌, ◌≤◌, ◌<◌}
-use mathlib.Core.Path.{◌≡◌, sym, ap, ap₂, ◌∙◌, subst}
+use mathlib.Core.Path.{◌≡◌, refl, sym, ap, ap₂, ◌∙◌, subst}
 use mathlib.Core.Logic.{◌⊎◌, inl, inr, ◌↔◌, ◌≢◌}
-use mathlib.Core.Bool.{not, not-not}
+use mathlib.Core.Bool.{Bool, true, false, cond, not, ◌||◌, not-not}
 use mathlib.Core.List.{List}
 use native.Mathlib.Omega.{arith}
 use native.Mathlib.Decide.{ℕ_discrete}
-use lib.Dec.{T, eqb_refl, T_not}
+use borrow.Author.Tests.{eqb-true}
+use lib.Dec.{T, eqb, eqb_refl, T_not}
 use lib.ListN.{length, set, take, length-set}
 use lib.Pow.{pow_mono}
 use lib.Seq.{get_or-set_same, get_or-set_other, get_or-take, take-set-lt}
+use Rattle.std.specs.List.{list_all}
+use Rattle.rules.proofs.RuleLaws.{every}
+use Rattle.rules.specs.Rules.{Rule, rules, is_rule_in, one_next_in, is_rule, needs_one_next}
 use Rattle.lists.specs.Places.{at}
 use Rattle.sets.specs.Sets.{member, complement, single}
 use Rattle.sets.proofs.Laws.{ext, complement_below, member_complement, single_count}
-use Rattle.sets.proofs.Truth.{decide}
+use Rattle.sets.proofs.Truth.{decide, true_yes}
 use Rattle.necklace.specs.Automaton.{OneNext}
 use Rattle.layout.specs.Layout.{most_beads, most_states, most_labels, rule_at, states_at, accepting_at, next_at, pattern_length}
 use Rattle.pattern_buffer.specs.Meaning.{labels_in, beads_in, automaton_of}
@@ -74,6 +78,31 @@ module _ (b : List ℕ) where
       (take-set-lt pattern_length ruled (accepting_at 0) others (omega arith)
       ∙ ap (λ (l : List ℕ). set l (accepting_at 0) others) (take-set-lt pattern_length b (rule_at 0) (3 - at b (rule_at 0)) (omega arith)))
 
+-- ---- the two rules
+
+-- The other of two rules is one.
+other_rules : list_all (λ (r : Rule). is_rule (3 - r.number)) rules ≡ true
+unfolding rules is_rule_in
+other_rules = refl
+
+needs_two : (n : ℕ) → T (needs_one_next n) → n ≡ 2
+unfolding rules one_next_in
+needs_two n t = go (eqb n 1) (eqb n 2) refl t
+  where
+    go : (a b : Bool) → eqb n 2 ≡ b → T (cond a false (cond b true false)) → n ≡ 2
+    go true b e t = absurd t
+    go false true e t = eqb-true n 2 e
+    go false false e t = absurd t
+
+not_one : (n : ℕ) → T (is_rule n) → (n ≡ 1 → ⊥) → n ≡ 2
+unfolding rules is_rule_in
+not_one n t f = go (eqb n 1) refl (eqb n 2) refl t
+  where
+    go : (a : Bool) → eqb n 1 ≡ a → (b : Bool) → eqb n 2 ≡ b → T (a || (b || false)) → n ≡ 2
+    go true d b e t = absurd (f (eqb-true n 1 d))
+    go false d true e t = eqb-true n 2 e
+    go false d false e t = absurd t
+
 -- ---- it is accepted
 
 module _ (b : List ℕ) (t : T (is_pattern b)) (one : beads_in b ≡ 1) where
@@ -104,13 +133,10 @@ module _ (b : List ℕ) (t : T (is_pattern b)) (one : beads_in b ≡ 1) where
       let z : 0 ≡ j = omega arith in
       let r = exchanged_rule b p.long in
       let s = same_states 0 (omega arith) in
-      let low = there.rule_low in
-      let high = there.rule_high in
       let some = there.some_state in
       let most = there.states_most in
       subst (Bead (exchanged_buffer b)) z (record {
-        rule_low = omega arith;
-        rule_high = omega arith;
+        rule = rw r (true_yes (is_rule (3 - at b (rule_at 0))) (every (λ n. is_rule (3 - n)) other_rules (at b (rule_at 0)) there.rule));
         turn = λ l. absurd (omega arith);
         some_state = omega arith;
         states_most = omega arith;
@@ -132,7 +158,7 @@ module _ (b : List ℕ) (t : T (is_pattern b)) (one : beads_in b ≡ 1) where
 
   module _ (table : at b (rule_at 0) ≡ 1 → OneNext (labels_in b) (automaton_of b 0)) where
     -- the exchanged bead is an ALL bead only where the given one is a SOME bead
-    single_next : at (exchanged_buffer b) (rule_at 0) ≡ 2 → (q a : ℕ) → q < at b (states_at 0) → a < labels_in b → T (single 16 (at b (next_at 0 q a)))
+    single_next : at (exchanged_buffer b) (rule_at 0) ≡ 2 → (q a : ℕ) → q < at b (states_at 0) → a < labels_in b → T (single most_states (at b (next_at 0 q a)))
     single_next r q a k l =
         let e = exchanged_rule b p.long in
         let inside = (next_there b p 0 q a (omega arith) k l).inside in
@@ -146,7 +172,7 @@ module _ (b : List ℕ) (t : T (is_pattern b)) (one : beads_in b ≡ 1) where
         let c = same_labels in
         record {
           inside = rw (same_next 0 q a, s) (next_there b p 0 q a (omega arith) (omega arith) (omega arith)).inside;
-          one = λ r. rw (same_next 0 q a) (single_next r q a (omega arith) (omega arith));
+          one = λ r. rw (same_next 0 q a) (single_next (needs_two (at (exchanged_buffer b) (rule_at 0)) r) q a (omega arith) (omega arith));
         }
     next (suc j) q a h k l =
         let s = same_states (suc j) h in
@@ -237,10 +263,9 @@ module _ (pattern log result work : List ℕ) (t : T (accepts pattern log result
           (rw (exchanged_front pattern) (some_exchanged (take pattern_length pattern) a.pattern_passes one r)) t exchanged_accepts v h
       go (no n) =
           let g = there (take pattern_length pattern) a.pattern_passes one in
-          let low = g.rule_low in
-          let high = g.rule_high in
+          let two = not_one (at (take pattern_length pattern) (rule_at 0)) g.rule n in
           let d = dual (exchanged_buffer pattern) pattern log result work
-          (rw (exchanged_front pattern) (all_exchanged (take pattern_length pattern) a.pattern_passes one (omega arith))) exchanged_accepts t v h
+          (rw (exchanged_front pattern) (all_exchanged (take pattern_length pattern) a.pattern_passes one two)) exchanged_accepts t v h
           in
           (λ y f. d.0 f y, λ f. whole (decide (rule_holds (result_after pattern log result work) v)) (λ m. f (d.1 m)))
         where

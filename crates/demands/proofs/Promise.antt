@@ -23,7 +23,7 @@ use Rattle.pattern_texts.specs.Given.{GivenPattern}
 use Rattle.pattern_texts.proofs.PatternBuffers.{pattern_buffers}
 use Rattle.pattern_buffer.proofs.Places.{passes_out}
 use Rattle.log_buffer.specs.Valid.{is_log}
-use Rattle.log_buffer.specs.Meaning.{steps_in}
+use Rattle.log_buffer.specs.Meaning.{steps_in, label_sets}
 use Rattle.log_texts.specs.Given.{GivenLog}
 use Rattle.log_texts.proofs.LogBuffers.{log_buffers}
 use Rattle.log_buffer.proofs.Sound.{sound_iff}
@@ -114,7 +114,7 @@ module _ (pattern log result work : List ℕ) where
     few : row_length * (log_in log).size ≤ result_length
     few =
         let s = ((sound_iff (labels_in (take pattern_length pattern)) (take log_length log)).0 a.log_passes).few_steps in
-        let e = size_is (take log_length log) in
+        let e = size_is (take log_length log) (label_sets (take log_length log)) in
         omega arith
 
     rows_long : length (rows_of (log_in log) (pattern_in pattern)) ≡ result_length

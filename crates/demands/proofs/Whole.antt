@@ -17,7 +17,7 @@ use Rattle.log_store.specs.Buffer.{buffer_of as log_buffer}
 use Rattle.pattern_buffer.specs.Meaning.{labels_in, pattern_of}
 use Rattle.pattern_buffer.specs.Valid.{is_pattern}
 use Rattle.pattern_texts.proofs.PatternBuffers.{pattern_buffers}
-use Rattle.log_buffer.specs.Meaning.{log_of}
+use Rattle.log_buffer.specs.Meaning.{log_of, log_of_room}
 use Rattle.log_buffer.specs.Valid.{is_log}
 use Rattle.log_texts.proofs.LogBuffers.{given_passes}
 use Rattle.necklace.specs.Compute.{row}
@@ -66,7 +66,7 @@ module _ (pt lt : List ℕ) (k : PatternKnown) (m : LogKnown) (reads : pattern_t
   }
 
   -- What it then leaves for a step.
-  pub whole_row : (v : ℕ) → v < (log_in log).size → row_in (result_after pattern log result work) v ≡ row (log_of (log_buffer m.steps)) (pattern_of (pattern_buffer k)) v
+  pub whole_row : (v : ℕ) → v < (log_in log).size → row_in (result_after pattern log result work) v ≡ row (log_of_room (log_buffer m.steps)) (pattern_of (pattern_buffer k)) v
   whole_row v h =
       row_in_result pattern log result work (accepted_call pattern log result work whole) v h
-      ∙ ap₂ (λ (l p : List ℕ). row (log_of l) (pattern_of p) v) gives_log gives
+      ∙ ap₂ (λ (l p : List ℕ). row (log_of_room l) (pattern_of p) v) gives_log gives

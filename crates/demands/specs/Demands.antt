@@ -2,7 +2,7 @@
 use Rattle.std.specs.Prelude.{ℕ, zero, suc, ◌+◌, ◌-◌, ◌*◌, ◌≤◌, ◌≡◌, Bool, cond, List, get_or, set}
 use Rattle.lists.specs.Places.{at}
 use Rattle.sets.specs.Sets.{member, complement}
-use Rattle.layout.specs.Layout.{rule_at, states_at, accepting_at}
+use Rattle.layout.specs.Layout.{rule_at, states_at, accepting_at, next_at}
 use Rattle.pattern_buffer.specs.Meaning.{labels_in, beads_in}
 use Rattle.results.specs.Result.{row_in}
 
@@ -23,7 +23,7 @@ pub record Exchanged (p q : List ℕ) : Type 0 where
   pub some_rule : at p (rule_at 0) ≡ 1
   pub all_rule : at q (rule_at 0) ≡ 2
   pub states : at q (states_at 0) ≡ at p (states_at 0)
-  pub next : (i : ℕ) → 26 ≤ i → at q i ≡ at p i
+  pub next : (i : ℕ) → next_at 0 0 0 ≤ i → at q i ≡ at p i
   pub accepting : at q (accepting_at 0) ≡ complement (at p (states_at 0)) (at p (accepting_at 0))
 
 -- Such a partner of a pattern buffer of one bead: the other rule (1 for 2, 2 for 1), final and other states exchanged, all else as it is.

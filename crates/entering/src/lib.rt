@@ -2,21 +2,22 @@
 #![tactic(auto)]
 
 ghost use Rattle.std.specs.Prelude.{◌≡◌, cond, eqb, ◌+◌, ◌<◌, ◌≤◌, length};
-ghost use Rattle.lists.specs.Filled.{Filled};
+ghost use Rattle.lists.specs.inner.Filled.{Filled};
 ghost use Rattle.lists.specs.Places.{at};
 ghost use Rattle.sets.specs.Sets.{set_of, singleton, members};
-ghost use Rattle.necklace.specs.Forward.{reached};
-ghost use Rattle.layout.specs.Layout.{most_beads, most_labels, most_states, pattern_length, rule_at, states_at, accepting_at, next_at};
+ghost use Rattle.necklace.specs.inner.Forward.{reached};
+ghost use Rattle.layout.specs.Layout.{most_beads, most_labels, most_states, pattern_length, rule_at, states_at, accepting_at};
+ghost use Rattle.layout.specs.Layout.{next_at, set_width, work_length};
 ghost use Rattle.pattern_buffer.specs.Meaning.{automaton_of};
 ghost use Rattle.entering.specs.Entering.{union_over, spread_over, Grown};
 
 // The value of each state, from the leaf. Written by index: of a loop over `iter_mut().enumerate()` a proof knows no values.
 #[tactic(auto, using(lists::proofs::FilledLaws::kit))]
 pub fn state_values() -> [u16; layout::MOST_STATES]
-    ensures { Filled singleton 16 result }
+    ensures { Filled singleton most_states result }
 {
     let mut values = [0u16; layout::MOST_STATES];
-    for state in 0..16u16 {
+    for state in 0..layout::MOST_STATES as u16 {
         values[usize::from(state)] = sets::singleton(state);
     }
     values
@@ -29,28 +30,28 @@ pub fn set_if(b: bool, set: u16) -> u16
     if b { set } else { 0 }
 }
 
-// The union of sixteen sets of a list, those whose place from `from` on is a member of a set. The values are laid out before the loop, and no
-// turn of it branches: the compiler then looks at all sixteen at once.
+// The union of the sets of a list whose place from `from` on is a member of a set. The values are laid out before the loop, and no turn of it
+// branches: the compiler then looks at all sixteen at once.
 #[tactic(auto, using(crate::proofs::EnterLaws::over_kit))]
 pub fn union_over(set: u16, list: &[u16], from: usize) -> u16
-    requires { (from < 16384) × (from + 16 ≤ length list.now) }
-    ensures { result ≡ set_of 16 (union_over set list.now from) }
+    requires { (from < work_length) × (from + set_width ≤ length list.now) }
+    ensures { result ≡ set_of set_width (union_over set list.now from) }
 {
     let values = state_values();
     let mut all = 0;
-    for i in 0..layout::MOST_STATES {
+    for i in 0..layout::SET_WIDTH {
         let there = sets::overlaps(set, values[i]);
         all = sets::union(all, set_if(there, list[from + i]));
     }
     all
 }
 
-// Adds a set to those of the first sixteen of a list whose place is a member of another. The values are laid out before the loop, as in
+// Adds a set to those of a list, a set a state, whose place is a member of another. The values are laid out before the loop, as in
 // `union_over`.
 #[tactic(auto, using(crate::proofs::GrowLaws::spread_kit))]
 pub fn spread(set: u16, more: u16, list: &mut [u16])
-    requires { 16 ≤ length list.old }
-    ensures { Grown 16 (spread_over set more) list.old list.new }
+    requires { most_states ≤ length list.old }
+    ensures { Grown most_states (spread_over set more) list.old list.new }
 {
     let values = state_values();
     for r in 0..layout::MOST_STATES {
@@ -110,7 +111,7 @@ impl<'a> Bead<'a> {
     #[tactic(auto, using(crate::proofs::EnterLaws::enter_kit))]
     pub fn enter(self, labels: u16, state: u16) -> u16
         requires { state < most_states }
-        ensures { result ≡ set_of 16 (reached (automaton_of self.entry.pattern.now self.entry.place) (members 16 labels) state) }
+        ensures { result ≡ set_of most_states (reached (automaton_of self.entry.pattern.now self.entry.place) (members most_labels labels) state) }
     {
         if labels == 0 {
             return sets::singleton(state);

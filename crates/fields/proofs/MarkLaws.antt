@@ -10,7 +10,7 @@ use borrow.Author.Tests.{lt-ltb, le-ltb}
 use lib.ListN.{length, get_or, take, drop, set, length-set, length-drop}
 use lib.Seq.{length-take-le, set_out, get_or-set_same, get_or-set_other}
 use Rattle.text.specs.Split.{split, first_part}
-use Rattle.fields.specs.Fields.{part_start, part_at, Marked}
+use Rattle.fields.specs.Fields.{part_start, part_at, FieldsMarked}
 use Rattle.std.specs.Prelude.{Some, None}
 use Rattle.fields.proofs.PlaceLaws.{start_none, start_next}
 use Rattle.fields.proofs.PartLaws.{parts_from, parts_all, parts_none, parts_step, part_in, part_kit}
@@ -94,7 +94,7 @@ module _ (b : ℕ) (l : List ℕ) (i at : ℕ) (starts new : List ℕ) (m : Mark
         done = put_down b l i at starts new m put;
       }
 
-  marked_all : length l < at → Marked b l i new
+  marked_all : length l < at → FieldsMarked b l i new
   marked_all past =
       let z : drop i (split b l) ≡ [] = m.rest ∙ parts_none b l at past in
       let q = ap length z in
@@ -108,7 +108,7 @@ module _ (b : ℕ) (l : List ℕ) (i at : ℕ) (starts new : List ℕ) (m : Mark
 
 -- The last mark: the walk over the fields ends one place behind the line's end.
 pub marking_end : (b : ℕ) (l : List ℕ) (i at : ℕ) (starts new : List ℕ) → Marking b l i at starts → at ≤ length l + 1 → length l < at
-    → new ≡ set starts i (length l + 1) → Marked b l i new
+    → new ≡ set starts i (length l + 1) → FieldsMarked b l i new
 marking_end b l i at starts new m inside past put =
     let e : length l + 1 ≡ at = omega arith in
     marked_all b l i at starts new m (put ∙ ap (λ (x : ℕ). set starts i x) e) past
@@ -130,7 +130,7 @@ pub ruleset marking_kit = (length_kept, marking_start, marking_next, marking_end
 
 -- ---- a field by its marks
 
-module _ (b : ℕ) (l : List ℕ) (count : ℕ) (starts : List ℕ) (index : ℕ) (m : Marked b l count starts) where
+module _ (b : ℕ) (l : List ℕ) (count : ℕ) (starts : List ℕ) (index : ℕ) (m : FieldsMarked b l count starts) where
   pub marked_count : count ≡ length (split b l)
   marked_count = m.counted
 

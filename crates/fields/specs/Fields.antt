@@ -22,6 +22,6 @@ same_bytes = bytes_eq
 
 -- A line's fields are marked: how many there are; and in a list where each begins, and last the place behind a last separator, if the
 -- line had one more. As many as the list has room for.
-pub record Marked (b : ℕ) (l : List ℕ) (count : ℕ) (starts : List ℕ) : Type 0 where
+pub record FieldsMarked (b : ℕ) (l : List ℕ) (count : ℕ) (starts : List ℕ) : Type 0 where
   pub counted : count ≡ length (split b l)
   pub begins : (i : ℕ) → i ≤ length (split b l) → i < length starts → get_or starts i 0 ≡ part_start (split b l) i

@@ -1,18 +1,18 @@
 // A line with its fields marked, so that each is found again at once.
 ghost use Rattle.std.specs.Prelude.{◌≡◌, length, get_or, set, []};
 ghost use Rattle.text.specs.Split.{split};
-ghost use Rattle.fields.specs.Fields.{part_at, Marked};
+ghost use Rattle.fields.specs.Fields.{part_at, FieldsMarked};
 
 use crate::{find_field, first_length};
 
-// How many fields the line has, and where each begins; last the place behind the line's end. What there is no room for is left out. There is no heap: the places are an array, and the count
-// may be past them.
+// How many fields the line has, and where each begins; last the place behind the line's end. What there is no room for is left out. There is no
+// heap: the places are an array, and the count may be past them.
 #[derive(Clone, Copy)]
 pub struct Fields<'a, const N: usize> {
     pub line: &'a [u8],
     count: usize,
     starts: [usize; N],
-    ghost marked: { Marked 32 line.now count starts },
+    ghost marked: { FieldsMarked 32 line.now count starts },
 }
 
 impl<'a, const N: usize> Fields<'a, N> {

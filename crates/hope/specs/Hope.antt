@@ -2,8 +2,8 @@
 use Rattle.std.specs.Prelude.{ℕ, ◌≤◌, ◌<◌, Bool, List, T, length, get_or}
 use Rattle.lists.specs.Places.{at}
 use Rattle.sets.specs.Sets.{member, set_of, some_below, overlaps}
-use Rattle.necklace.specs.Forward.{Hopeful}
-use Rattle.layout.specs.Layout.{most_beads, next_at, pattern_length}
+use Rattle.necklace.specs.inner.Forward.{Hopeful}
+use Rattle.layout.specs.Layout.{most_beads, next_at, pattern_length, most_labels, most_states}
 use Rattle.pattern_buffer.specs.Meaning.{automaton_of, beads_in}
 use Rattle.entering.specs.Entering.{BeadIn}
 
@@ -29,17 +29,17 @@ leads_by pattern j q n r = some_below n (λ a. member r (at pattern (next_at j q
 
 -- All next states of q.
 unfoldable pub onward_from : List ℕ → ℕ → ℕ → ℕ
-onward_from pattern j q = set_of 16 (leads_by pattern j q 16)
+onward_from pattern j q = set_of most_states (leads_by pattern j q most_labels)
 
 -- The state q has a next state in the set. `onwards`: the next states of each state.
 abbrev pub leads_into : List ℕ → ℕ → ℕ → Bool
-leads_into onwards set q = overlaps 16 (get_or onwards q 0) set
+leads_into onwards set q = overlaps most_states (get_or onwards q 0) set
 
 -- Every state of s is in t.
 pub record Has (s t : ℕ) : Type 0 where
-  pub states : (q : ℕ) → q < 16 → T (member q s) → T (member q t)
+  pub states : (q : ℕ) → q < most_states → T (member q s) → T (member q t)
 
 -- A set with all states of s, and with each state that has a next state in it.
 pub record Closed (onwards : List ℕ) (s set : ℕ) : Type 0 where
   pub first : Has s set
-  pub before : (q r : ℕ) → q < 16 → r < 16 → T (member r (get_or onwards q 0)) → T (member r set) → T (member q set)
+  pub before : (q r : ℕ) → q < most_states → r < most_states → T (member r (get_or onwards q 0)) → T (member r set) → T (member q set)

@@ -2,7 +2,7 @@
 #![tactic(auto)]
 
 ghost use Rattle.std.specs.Prelude.{◌≡◌, ◌<◌, ◌≤◌, length};
-ghost use Rattle.lists.specs.Filled.{Filled};
+ghost use Rattle.lists.specs.inner.Filled.{Filled};
 ghost use Rattle.sets.specs.Sets.{set_of};
 ghost use Rattle.layout.specs.Layout.{most_beads, most_states};
 ghost use Rattle.entering.specs.Entering.{BeadIn};
@@ -10,7 +10,7 @@ ghost use Rattle.hope.specs.Hope.{HopefulSet, Hopes, AllBeads, onward_from, lead
 
 use entering::Bead;
 
-// All next states of a state, over all sixteen labels.
+// All next states of a state, over all labels.
 #[tactic(auto, using(crate::proofs::HopeLaws::onward_kit))]
 fn onward(bead: Bead, state: usize) -> u16
     requires { state < most_states }
@@ -26,7 +26,7 @@ fn onward(bead: Bead, state: usize) -> u16
 // The same for each state of a bead, by index, as `entering::state_values`.
 #[tactic(auto, using(lists::proofs::FilledLaws::kit))]
 fn all_onward(bead: Bead) -> [u16; layout::MOST_STATES]
-    ensures { Filled (onward_from bead.entry.pattern.now bead.entry.place) 16 result }
+    ensures { Filled (onward_from bead.entry.pattern.now bead.entry.place) most_states result }
 {
     let mut onwards = [0u16; layout::MOST_STATES];
     for state in 0..layout::MOST_STATES {
@@ -38,7 +38,7 @@ fn all_onward(bead: Bead) -> [u16; layout::MOST_STATES]
 // The states with a next state in the set. The values are laid out before the loop: the compiler then looks at all states at once.
 #[tactic(auto, using(crate::proofs::HopeLaws::leading_kit))]
 fn leading(onwards: &[u16; layout::MOST_STATES], set: u16) -> u16
-    ensures { result ≡ set_of 16 (leads_into onwards.now set) }
+    ensures { result ≡ set_of most_states (leads_into onwards.now set) }
 {
     let values = entering::state_values();
     let mut all = 0;
@@ -50,7 +50,8 @@ fn leading(onwards: &[u16; layout::MOST_STATES], set: u16) -> u16
     all
 }
 
-// The set grown by the states that lead into it until nothing is added. 16 rounds are enough; were they not, all states would be given.
+// The set grown by the states that lead into it until nothing is added. As many rounds as states are enough; were they not, all states would be
+// given.
 #[tactic(auto, using(crate::proofs::HopeLaws::grown_kit))]
 fn grown(onwards: &[u16; layout::MOST_STATES], first: u16) -> u16
     ensures { Closed onwards.now first result }

@@ -7,6 +7,7 @@ use borrow.Author.Tests.{eq-eqb, ne_eqb}
 use lib.Dec.{T, eqb}
 use lib.ListN.{length, get_or, drop}
 use lib.Seq.{sets-eq, length-sets, length-take-le}
+use Rattle.layout.specs.Layout.{result_length, row_length}
 use Rattle.answer.specs.declared.Answer.{Answer}
 use Rattle.pattern_buffer.specs.Meaning.{beads_in}
 use Rattle.log_buffer.specs.Meaning.{steps_in}
@@ -56,7 +57,7 @@ front text old new n w h = record {
 
 module _ (pattern_text log_text pattern log result work pattern' log' result' work' : List ℕ) (r : Answer)
     (run : Run pattern_text log_text pattern log result work r pattern' log' result' work') (z : r.number ≡ 0) where
-  pub rows_room : length result' ≡ 10240 → 10 * get_or log' 0 0 ≤ length result'
+  pub rows_room : length result' ≡ result_length → row_length * get_or log' 0 0 ≤ length result'
   rows_room e = let j = judged run z in omega (arith, few_steps pattern' log' j.old j.work j.accepted)
 
   pub rows_out : (old new : List ℕ) (n : ℕ) → Put (header_text ++ row_lines (get_or pattern' 1 0) (get_or log' 0 0) result') 0 old n new

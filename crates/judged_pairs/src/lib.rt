@@ -4,8 +4,9 @@
 ghost use Rattle.std.specs.Prelude.{ℕ, ◌<◌};
 
 use answer::Answer;
-use places::{LogRoom, PatternRoom, fill_noise};
-use random_inputs::{Labels, Links, Shape, draw_log, draw_pattern};
+use random_inputs::{
+    Labels, Links, LogRoom, PatternRoom, Shape, draw_log, draw_pattern, fill_noise,
+};
 use trial::Random;
 
 // Tries this many pairs one after the other, each by its index, with numbers drawn from a seed.

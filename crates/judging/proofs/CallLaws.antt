@@ -15,24 +15,24 @@ use Rattle.answer.specs.Faults.{first_fault, answer_or, kept_or}
 use Rattle.layout.specs.Layout.{pattern_length, log_length, result_length, work_length}
 use Rattle.judging.specs.Judge.{pattern_in, log_in, buffer_faults, judge_faults, judge_answer, result_after, work_after}
 use Rattle.results.specs.Result.{whole_up_to, rows_of, zeros}
-use Rattle.judging.specs.Fit.{fit_answer, fit_result, fit_work}
+use Rattle.judging.specs.inner.Fit.{fit_answer, fit_result, fit_work}
 
-module _ (pattern log result work : List ℕ) (a : 7170 ≤ length log) (b : 2074 ≤ length pattern) (c : 10240 ≤ length result) (d : 16384 ≤ length work) where
+module _ (pattern log result work : List ℕ) (a : log_length ≤ length log) (b : pattern_length ≤ length pattern) (c : result_length ≤ length result) (d : work_length ≤ length work) where
   -- Only 6 and 7 are left.
   pub long_enough : first_fault (judge_faults pattern log result work) ≡ first_fault (buffer_faults (take pattern_length pattern) (take log_length log))
   unfolding first_fault
   long_enough =
       rw (le-ltb (length log) log_length a, le-ltb (length pattern) pattern_length b, le-ltb (length result) result_length c, le-ltb (length work) work_length d)
 
-  pub call_answer : (r : Answer) → r ≡ fit_answer (take 2074 pattern) (take 7170 log) → r ≡ judge_answer pattern log result work
+  pub call_answer : (r : Answer) → r ≡ fit_answer (take pattern_length pattern) (take log_length log) → r ≡ judge_answer pattern log result work
   call_answer r e =
       e ∙ ap (λ (o : Option Answer). answer_or o (accepted_with (whole_up_to (log_in log) (pattern_in pattern) (log_in log).size))) (sym long_enough)
 
-  pub call_result : (exit : List ℕ) → exit ≡ fit_result (take 2074 pattern) (take 7170 log) result → exit ≡ result_after pattern log result work
+  pub call_result : (exit : List ℕ) → exit ≡ fit_result (take pattern_length pattern) (take log_length log) result → exit ≡ result_after pattern log result work
   call_result exit e =
       e ∙ ap (λ (o : Option Answer). kept_or o result (rows_of (log_in log) (pattern_in pattern) ++ drop result_length result)) (sym long_enough)
 
-  pub call_work : (inner : List ℕ) → inner ≡ fit_work (take 2074 pattern) (take 7170 log) (take 16384 work) → put_mid 0 16384 work inner ≡ work_after pattern log result work
+  pub call_work : (inner : List ℕ) → inner ≡ fit_work (take pattern_length pattern) (take log_length log) (take work_length work) → put_mid 0 work_length work inner ≡ work_after pattern log result work
   unfolding kept_or
   call_work inner e =
       ap (λ (x : List ℕ). x ++ drop work_length work) e
@@ -51,7 +51,10 @@ part_counts n l h = sym (length-take-le n l h)
 pub part_long : (n : ℕ) (l : List ℕ) → n ≤ length l → length (take n l) ≡ n
 part_long n l h = length-take-le n l h
 
-pub part_some : (l : List ℕ) → 2074 ≤ length l → 0 < length (take 2074 l)
-part_some l h = let e = length-take-le 2074 l h in omega arith
+pub part_some : (l : List ℕ) → pattern_length ≤ length l → 0 < length (take pattern_length l)
+part_some l h = let e = length-take-le pattern_length l h in omega arith
 
-pub ruleset part_kit = (part_long, part_some)
+pub part_log : (l : List ℕ) → log_length ≤ length l → log_length ≤ length (take log_length l)
+part_log l h = let e = length-take-le log_length l h in omega arith
+
+pub ruleset part_kit = (part_long, part_some, part_log)

@@ -1,7 +1,7 @@
 -- Tests 6 and 7 before the judging.
 -- Assumes nothing.
 use Prim.Native.Nat.{ℕ}
-use mathlib.Core.Path.{◌≡◌, sym, ap, ◌∙◌}
+use mathlib.Core.Path.{◌≡◌, refl, sym, ap, ◌∙◌}
 use mathlib.Core.Bool.{Bool, true}
 use mathlib.Core.List.{List}
 use lib.ListN.{get_or, replicate}
@@ -11,14 +11,17 @@ use Rattle.answer.specs.Answers.{accepted_with}
 use Rattle.answer.proofs.FaultSteps.{fault_steps}
 use Rattle.pattern_buffer.specs.Meaning.{labels_in}
 use Rattle.pattern_buffer.specs.Valid.{is_pattern}
+use Rattle.log_buffer.specs.Meaning.{label_sets}
 use Rattle.log_buffer.specs.Valid.{is_log}
-use Rattle.prefix_phase.specs.Marked.{Tried}
+use Rattle.prefix_phase.specs.Marked.{Tested}
 use Rattle.results.specs.Result.{zeros}
 
-pub both_tried : (pattern log : List ℕ) (b d : Bool) → b ≡ is_pattern pattern → b ≡ true → d ≡ is_log (get_or pattern 0 0) log → d ≡ true → Tried pattern log
-both_tried pattern log b d p y q z = record {
+pub both_tested : (pattern log : List ℕ) (b d : Bool) → b ≡ is_pattern pattern → b ≡ true → d ≡ is_log (get_or pattern 0 0) log → d ≡ true
+    → Tested pattern log (label_sets log)
+both_tested pattern log b d p y q z = record {
   pattern_passes = true_yes (is_pattern pattern) (sym p ∙ y);
   log_passes = true_yes (is_log (labels_in pattern) log) (sym q ∙ z);
+  labels_are = refl;
 }
 
 pub counted : (r : Answer) (c n : ℕ) → r ≡ accepted_with c → c ≡ n → r ≡ accepted_with n
@@ -28,4 +31,4 @@ pub cleared : (exit : List ℕ) (n : ℕ) → exit ≡ replicate n 0 → exit �
 unfolding zeros
 cleared exit n e = e
 
-pub ruleset fit_kit = (fault_steps, both_tried, counted, cleared)
+pub ruleset fit_kit = (fault_steps, both_tested, counted, cleared)

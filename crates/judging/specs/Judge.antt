@@ -9,7 +9,7 @@ use Rattle.necklace.specs.Necklace.{Pattern}
 use Rattle.layout.specs.Layout.{pattern_length, log_length, result_length, work_length}
 use Rattle.pattern_buffer.specs.Meaning.{pattern_of, labels_in}
 use Rattle.pattern_buffer.specs.Valid.{is_pattern}
-use Rattle.log_buffer.specs.Meaning.{log_of}
+use Rattle.log_buffer.specs.Meaning.{log_of_room}
 use Rattle.log_buffer.specs.Valid.{is_log}
 use Rattle.results.specs.Result.{whole_up_to, rows_of, zeros}
 
@@ -18,7 +18,7 @@ abbrev pub pattern_in : List ℕ → Pattern
 pattern_in pattern = pattern_of (take pattern_length pattern)
 
 abbrev pub log_in : List ℕ → Dag
-log_in log = log_of (take log_length log)
+log_in log = log_of_room (take log_length log)
 
 -- 6, then 7, of a pattern and a log buffer of their documented lengths.
 abbrev pub buffer_faults : List ℕ → List ℕ → List Fault

@@ -1,2 +1,2 @@
 pub mod Judge
-pub mod Fit
+pub mod inner

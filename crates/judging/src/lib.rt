@@ -2,15 +2,16 @@
 #![tactic(auto)]
 
 ghost use Rattle.std.specs.Prelude.{◌≡◌, ◌≤◌, ◌<◌, length};
+ghost use Rattle.layout.specs.Layout.{log_length, result_length, work_length};
 ghost use Rattle.judging.specs.Judge.{judge_answer, result_after, work_after};
-ghost use Rattle.judging.specs.Fit.{fit_answer, fit_result, fit_work};
+ghost use Rattle.judging.specs.inner.Fit.{fit_answer, fit_result, fit_work};
 
 use answer::Answer;
 
 // Tests 6 and 7, and the judging, on buffers of their documented lengths.
 #[tactic(auto, using(crate::proofs::FitLaws::fit_kit))]
 fn judge_fit(pattern: &[u16], log: &[u16], res: &mut [u16], work: &mut [u16]) -> Answer
-    requires { (0 < length pattern.now) × (10240 ≤ length res.old) × (length work.old ≡ 16384) }
+    requires { (0 < length pattern.now) × (log_length ≤ length log.now) × (result_length ≤ length res.old) × (length work.old ≡ work_length) }
     ensures value { result ≡ fit_answer pattern.now log.now }
     ensures res_after { res.new ≡ fit_result pattern.now log.now res.old }
     ensures work_after { work.new ≡ fit_work pattern.now log.now work.old }
@@ -21,7 +22,8 @@ fn judge_fit(pattern: &[u16], log: &[u16], res: &mut [u16], work: &mut [u16]) ->
     if !log_test::is_log(log, pattern[0]) {
         return answer::refused(7, 0);
     }
-    answer::accepted(results::judge_tried(pattern, log, res, work))
+    let labels = &log[layout::LABEL_SETS..layout::BOARDS];
+    answer::accepted(results::judge_tested(pattern, log, labels, res, work))
 }
 
 // Judges a log by a pattern: fills one row for each step.

@@ -4,7 +4,7 @@
 ghost use Rattle.std.specs.Prelude.{◌≡◌, ◌<◌, ◌≤◌, length};
 ghost use Rattle.lists.specs.Places.{at};
 ghost use Rattle.sets.specs.Sets.{set_of, complement};
-ghost use Rattle.layout.specs.Layout.{most_steps, states_at, work_length};
+ghost use Rattle.layout.specs.Layout.{most_steps, states_at, work_length, most_lanes};
 ghost use Rattle.entering.specs.Entering.{BeadIn};
 ghost use Rattle.lane_sets.specs.LaneSets.{lane_with, lane_holds};
 
@@ -22,7 +22,7 @@ fn other_states(bead: Bead, set: u16) -> u16
 #[tactic(auto, using(crate::proofs::LaneLaws::with_is))]
 fn lanes_with(work: &[u16], x: usize, states: u16) -> u16
     requires { (x < most_steps) × (work_length ≤ length work.now) }
-    ensures { result ≡ set_of 16 (lane_with work.now x states) }
+    ensures { result ≡ set_of most_lanes (lane_with work.now x states) }
 {
     entering::union_over(states, work, layout::MOST_STATES * x)
 }
@@ -33,12 +33,12 @@ fn lanes_with(work: &[u16], x: usize, states: u16) -> u16
 pub fn reaching(bead: Bead, set: u16, work: &[u16], x: usize) -> u16
     requires bead_in { BeadIn bead.pattern.now bead.place }
     requires x_bound { (x < most_steps) × (work_length ≤ length work.now) }
-    ensures { result ≡ set_of 16 (lane_holds bead.entry.pattern.now bead.entry.place set work.now x) }
+    ensures { result ≡ set_of most_lanes (lane_holds bead.entry.pattern.now bead.entry.place set work.now x) }
 {
     let inside = lanes_with(work, x, set);
     if bead.is_all() {
         let others = lanes_with(work, x, other_states(bead, set));
-        return sets::intersection(inside, sets::complement(others, 16));
+        return sets::intersection(inside, sets::complement(others, layout::MOST_LANES));
     }
     inside
 }

@@ -13,6 +13,7 @@ use Rattle.sets.specs.Sets.{member, union}
 use Rattle.sets.proofs.Bits.{member_empty}
 use Rattle.sets.proofs.Laws.{member_union}
 use Rattle.necklace.specs.Compute.{some_of}
+use Rattle.layout.specs.Layout.{most_states, most_lanes}
 use Rattle.entering.specs.Entering.{Grown}
 use Rattle.entering.proofs.GrowLaws.{grown_none, grown_end, grown_more}
 use Rattle.lanes.specs.Lanes.{work_at, lane_in, lanes_at, Gathered}
@@ -20,7 +21,7 @@ use Rattle.lanes.specs.Lanes.{work_at, lane_in, lanes_at, Gathered}
 -- ---- one step
 
 module _ (work : List ℕ) (w j : ℕ) (old l : List ℕ) (d : Grown j (lanes_at work w) old l) (v : ℕ) where
-  pub step_more : j < 16 → 16 ≤ length l → v ≡ union 16 (get_or l j 0) (get_or work (16 * w + j) 0) → Grown (j + 1) (lanes_at work w) old (set l j v)
+  pub step_more : j < most_states → most_states ≤ length l → v ≡ union most_lanes (get_or l j 0) (get_or work (work_at w j) 0) → Grown (j + 1) (lanes_at work w) old (set l j v)
   unfolding lanes_at
   step_more h long e = grown_more (lanes_at work w) j old l d (omega arith) v e
 
@@ -40,12 +41,12 @@ module _ (work : List ℕ) (first : ℕ) (links : List ℕ) (j w : ℕ) (link : 
       ap (λ (k : ℕ). take k links) (add-one j) ∙ take-suc links j 0 h ∙ ap (λ (y : ℕ). take j links ++ (y ∷ [])) (sym link) in
       ap (some_of (λ y. lane_in work first i y q)) last ∙ some_of_last (λ y. lane_in work first i y q) w (take j links)
 
-  pub link_yes : (new : List ℕ) → first ≤ w → Grown 16 (lanes_at work w) old new → Gathered work first (take (j + 1) links) new
+  pub link_yes : (new : List ℕ) → first ≤ w → Grown most_states (lanes_at work w) old new → Gathered work first (take (j + 1) links) new
   unfolding lane_in lanes_at
   link_yes new up g = record {
     lanes = λ i q l k.
-        ap (member i) (g.numbers q ∙ ap (λ (b : Bool). cond b (union 16 (get_or old q 0) (lanes_at work w q)) (get_or old q 0)) (lt-ltb q 16 k))
-        ∙ member_union 16 (get_or old q 0) (lanes_at work w q) i l ∙ ap (λ (b : Bool). b || member i (get_or work (work_at w q) 0)) (d.lanes i q l k)
+        ap (member i) (g.numbers q ∙ ap (λ (b : Bool). cond b (union most_lanes (get_or old q 0) (lanes_at work w q)) (get_or old q 0)) (lt-ltb q most_states k))
+        ∙ member_union most_lanes (get_or old q 0) (lanes_at work w q) i l ∙ ap (λ (b : Bool). b || member i (get_or work (work_at w q) 0)) (d.lanes i q l k)
         ∙ sym (more i q ∙ ap (λ (b : Bool). some_of (λ y. lane_in work first i y q) (take j links) || (b && member i (get_or work (work_at w q) 0))) (le-leb first w up));
   }
 

@@ -13,6 +13,7 @@ use Rattle.std.proofs.Math.Nat.{min-eq_left}
 use Rattle.sets.specs.Sets.{member, union}
 use Rattle.sets.proofs.Bits.{member_empty}
 use Rattle.sets.proofs.Laws.{member_union}
+use Rattle.layout.specs.Layout.{most_states, most_lanes, most_steps, work_length}
 use Rattle.lanes.specs.Lanes.{work_at, PutTo, BegunAt}
 
 -- ---- putting down
@@ -40,35 +41,35 @@ module _ (a k : ℕ) (l part : List ℕ) (room : a + k ≤ length l) (size : len
       ∙ ap (λ (j : ℕ). get_or l j 0) (omega arith)
 
 -- a part of the buffer copied over
-pub put_all : (x : ℕ) (here part old : List ℕ) → part ≡ take 16 here → 16 ≤ length here → x < 1024 → 16384 ≤ length old
-    → PutTo 16 x here old (put_mid (16 * x) (16 * x + 16 - 16 * x) old part)
+pub put_all : (x : ℕ) (here part old : List ℕ) → part ≡ take most_states here → most_states ≤ length here → x < most_steps → work_length ≤ length old
+    → PutTo most_states x here old (put_mid (most_states * x) (most_states * x + most_states - most_states * x) old part)
 put_all x here part old p long few room = rw k (record { own = own; others = λ w q h n. others w q h n (dec_lt w x) })
   where
-    k : 16 * x + 16 - 16 * x ≡ 16
+    k : most_states * x + most_states - most_states * x ≡ most_states
     k = omega arith
 
-    size : length part ≡ 16
-    size = ap length p ∙ length-take 16 here ∙ min-eq_left long
+    size : length part ≡ most_states
+    size = ap length p ∙ length-take most_states here ∙ min-eq_left long
 
-    own : (q : ℕ) → q < 16 → get_or (put_mid (16 * x) 16 old part) (work_at x q) 0 ≡ get_or here q 0
-    own q h = part_within (16 * x) 16 old part (omega arith) size q h ∙ ap (λ (l : List ℕ). get_or l q 0) p ∙ get_or-take 16 here q 0 h
+    own : (q : ℕ) → q < most_states → get_or (put_mid (most_states * x) most_states old part) (work_at x q) 0 ≡ get_or here q 0
+    own q h = part_within (most_states * x) most_states old part (omega arith) size q h ∙ ap (λ (l : List ℕ). get_or l q 0) p ∙ get_or-take most_states here q 0 h
 
-    others : (w q : ℕ) → q < 16 → (w ≡ x → ⊥) → Dec (w < x) → get_or (put_mid (16 * x) 16 old part) (work_at w q) 0 ≡ get_or old (work_at w q) 0
-    others w q h n (yes l) = part_below (16 * x) 16 old part (omega arith) size (work_at w q) (omega arith)
-    others w q h n (no l) = part_above (16 * x) 16 old part (omega arith) size (work_at w q) (past n l)
+    others : (w q : ℕ) → q < most_states → (w ≡ x → ⊥) → Dec (w < x) → get_or (put_mid (most_states * x) most_states old part) (work_at w q) 0 ≡ get_or old (work_at w q) 0
+    others w q h n (yes l) = part_below (most_states * x) most_states old part (omega arith) size (work_at w q) (omega arith)
+    others w q h n (no l) = part_above (most_states * x) most_states old part (omega arith) size (work_at w q) (past n l)
       where
-        past : (w ≡ x → ⊥) → (w < x → ⊥) → 16 * x + 16 ≤ work_at w q
+        past : (w ≡ x → ⊥) → (w < x → ⊥) → most_states * x + most_states ≤ work_at w q
         past n l = omega arith
 
 -- ---- the lanes that begin
 
 pub begun_none : (x begin : ℕ) (l : List ℕ) → begin ≡ 0 → BegunAt x begin l l
-begun_none x begin l e = record { own = λ i h. sym (ap (λ (b : Bool). member i (get_or l (16 * x) 0) || b) (ap (member i) e ∙ member_empty i) ∙ or-false _); others = λ y n. refl }
+begun_none x begin l e = record { own = λ i h. sym (ap (λ (b : Bool). member i (get_or l (most_states * x) 0) || b) (ap (member i) e ∙ member_empty i) ∙ or-false _); others = λ y n. refl }
 
-pub begun_some : (x begin : ℕ) (l : List ℕ) (v : ℕ) → x < 1024 → 16384 ≤ length l → v ≡ union 16 (get_or l (16 * x) 0) begin → BegunAt x begin l (set l (16 * x) v)
+pub begun_some : (x begin : ℕ) (l : List ℕ) (v : ℕ) → x < most_steps → work_length ≤ length l → v ≡ union most_lanes (get_or l (most_states * x) 0) begin → BegunAt x begin l (set l (most_states * x) v)
 begun_some x begin l v few long e = record {
-  own = λ i h. ap (member i) (get_or-set_same l (16 * x) v 0 (omega arith) ∙ e) ∙ member_union 16 (get_or l (16 * x) 0) begin i h;
-  others = λ y n. get_or-set_other l (16 * x) y v 0 n;
+  own = λ i h. ap (member i) (get_or-set_same l (most_states * x) v 0 (omega arith) ∙ e) ∙ member_union most_lanes (get_or l (most_states * x) 0) begin i h;
+  others = λ y n. get_or-set_other l (most_states * x) y v 0 n;
 }
 
 pub ruleset begin_kit = (begun_none, begun_some)

@@ -1,9 +1,10 @@
-// The work buffer of sixteen forward passes: for each step and state the set of the lanes, of sixteen, that are in the state there.
-// Rooms are slices of at least so many numbers, as each contract says: an array, or a struct with the bound, would take fewer or be made anew at each call.
+// The work buffer of sixteen forward passes, a lane each: for each step and state the set of the lanes that are in the state there.
+// Rooms are slices of at least so many numbers, as each contract says: an array, or a struct with the bound, would take fewer or be made anew at
+// each call.
 #![tactic(auto)]
 
 ghost use Rattle.std.specs.Prelude.{◌<◌, ◌≤◌, length};
-ghost use Rattle.layout.specs.Layout.{most_steps, work_length};
+ghost use Rattle.layout.specs.Layout.{most_steps, work_length, most_states};
 ghost use Rattle.log_buffer.specs.Meaning.{steps_in, links_into};
 ghost use Rattle.log_links.specs.Links.{Inside};
 ghost use Rattle.entering.specs.Entering.{Grown};
@@ -15,7 +16,7 @@ use log_links::Log;
 #[tactic(auto, using(crate::proofs::GatherLaws::step_kit))]
 fn add_step(work: &[u16], w: usize, here: &mut [u16; layout::MOST_STATES])
     requires { (w < most_steps) × (work_length ≤ length work.now) }
-    ensures { Grown 16 (lanes_at work.now w) here.old here.new }
+    ensures { Grown most_states (lanes_at work.now w) here.old here.new }
 {
     for q in 0..layout::MOST_STATES {
         here[q] = sets::union(here[q], work[layout::MOST_STATES * w + q]);
@@ -49,8 +50,8 @@ pub fn before(log: Log, x: usize, first: usize, work: &[u16]) -> [u16; layout::M
 // Puts the lanes down at the step x.
 #[tactic(auto, using(crate::proofs::PutLaws::put_all))]
 pub fn put(here: &[u16], x: usize, work: &mut [u16])
-    requires { (x < most_steps) × (16 ≤ length here.now) × (work_length ≤ length work.old) }
-    ensures { PutTo 16 x here.now work.old work.new }
+    requires { (x < most_steps) × (most_states ≤ length here.now) × (work_length ≤ length work.old) }
+    ensures { PutTo most_states x here.now work.old work.new }
 {
     let from = layout::MOST_STATES * x;
     work[from..from + layout::MOST_STATES].copy_from_slice(&here[..layout::MOST_STATES]);

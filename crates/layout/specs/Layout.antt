@@ -38,6 +38,13 @@ most_line = 240
 abbrev pub most_name : ℕ
 most_name = 12
 
+-- The largest number that a text may have, and the largest label set: one with all labels.
+abbrev pub most_number : ℕ
+most_number = 65535
+
+abbrev pub most_label_set : ℕ
+most_label_set = 65535
+
 -- ---- the pattern buffer
 
 -- Label count, bead count; then the rules, the state counts, the final sets, a place a bead; then the next sets, a place for each label of
@@ -51,15 +58,25 @@ states_at j = 10 + j
 abbrev pub accepting_at : ℕ → ℕ
 accepting_at j = 18 + j
 
--- Next sets of a state, one a label, and of a bead.
+-- States of all beads, there or not.
+abbrev pub all_states : ℕ
+all_states = 128
+
+-- Next sets of a state, one a label, of a bead, and in all; and where they begin.
 abbrev pub sets_a_state : ℕ
 sets_a_state = 16
 
 abbrev pub sets_a_bead : ℕ
 sets_a_bead = 256
 
+abbrev pub all_sets : ℕ
+all_sets = 2048
+
+abbrev pub sets_begin : ℕ
+sets_begin = 26
+
 abbrev pub next_at : ℕ → ℕ → ℕ → ℕ
-next_at j q a = 26 + sets_a_bead * j + sets_a_state * q + a
+next_at j q a = sets_begin + sets_a_bead * j + sets_a_state * q + a
 
 abbrev pub pattern_length : ℕ
 pattern_length = 2074
@@ -94,3 +111,15 @@ work_length = 16384
 -- A row is ten numbers starting at ten times the step's number.
 abbrev pub row_length : ℕ
 row_length = 10
+
+-- Places of the pivots: for each bead and one more, a place a step.
+abbrev pub pivot_places : ℕ
+pivot_places = 9216
+
+-- Lanes of a pass, that is starting steps that it tells apart. The set of the lanes in a state is one number of 16 bits.
+abbrev pub most_lanes : ℕ
+most_lanes = 16
+
+-- Members that such a number has room for, whatever the set is of.
+abbrev pub set_width : ℕ
+set_width = 16

@@ -31,6 +31,12 @@ pub const MOST_LINE: usize = 240;
 
 pub const MOST_NAME: usize = 12;
 
+// The largest number that a text may have, as the type in which a number is read.
+pub const MOST_NUMBER: u32 = 65535;
+
+// Room for the places of a pattern line's fields, at most 4 and one a label, and for where the line ends.
+pub const PATTERN_FIELDS: usize = 24;
+
 // ---- the rules, as the pattern buffer has them
 
 pub const SOME: u16 = 1;
@@ -86,4 +92,10 @@ pub const ROW_LENGTH: usize = 10;
 pub const WORK_LENGTH: usize = 16384;
 
 // Places of the pivots: for each bead and one more, a place a step.
-pub const PIVOTS_LENGTH: usize = 9216;
+pub const PIVOT_PLACES: usize = 9216;
+
+// Lanes of a pass. The set of the lanes in a state is one number of 16 bits.
+pub const MOST_LANES: u16 = 16;
+
+// Members that such a number has room for, whatever the set is of.
+pub const SET_WIDTH: usize = 16;

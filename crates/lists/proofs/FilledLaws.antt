@@ -7,7 +7,7 @@ use native.Mathlib.Nat.{not-suc-le-zero}
 use native.Mathlib.Omega.{arith}
 use lib.ListN.{length, get_or, set}
 use lib.Seq.{get_or-set_same, get_or-set_other}
-use Rattle.lists.specs.Filled.{Filled}
+use Rattle.lists.specs.inner.Filled.{Filled}
 
 pub filled_none : (f : ℕ → ℕ) (l : List ℕ) → Filled f 0 l
 filled_none f l = record { number = λ i h. absurd (not-suc-le-zero h) }

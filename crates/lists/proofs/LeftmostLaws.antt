@@ -1,7 +1,7 @@
 -- The leftmost number that passes a test: it passes, none before it does, and a loop that stops at the first that passes finds it.
 -- Assumes nothing.
 use Prim.Native.Nat.{ℕ, zero, suc, ◌+◌, ◌≤◌, ◌<◌}
-use mathlib.Core.Path.{◌≡◌, refl, sym, ◌∙◌, subst}
+use mathlib.Core.Path.{◌≡◌, refl, subst}
 use mathlib.Core.Bool.{Bool, true, false}
 use mathlib.Core.Logic.{◌⊎◌, inl, inr}
 use native.Mathlib.Nat.{eq-or-lt_of_le}
@@ -80,22 +80,12 @@ module _ (f : ℕ → Bool) (n : ℕ) where
 pub record NoneBelow (f : ℕ → Bool) (i : ℕ) : Type 0 where
   pub none : (j : ℕ) → j < i → f j ≡ false
 
-pub below_none : (f : ℕ → Bool) → NoneBelow f 0
-below_none f = record { none = λ j h. absurd (omega arith) }
-
 -- A test is not both passed and failed.
 pub clash : {A : Type 0} (b : Bool) → b ≡ true → b ≡ false → A
 clash true p q = let z : ◌≡◌ {A = ℕ} 0 1 = cc in absurd (omega arith)
 clash false p q = let z : ◌≡◌ {A = ℕ} 0 1 = cc in absurd (omega arith)
 
 module _ (f : ℕ → Bool) (i : ℕ) (passed : NoneBelow f i) where
-  pub below_more : (r : Bool) → r ≡ f i → r ≡ false → NoneBelow f (i + 1)
-  below_more r g e = record { none = λ j h. go j (eq-or-lt_of_le h) }
-    where
-      go : (j : ℕ) → (suc j ≡ i + 1) ⊎ (suc j < i + 1) → f j ≡ false
-      go j (inl q) = let z : i ≡ j = omega arith in subst (λ (m : ℕ). f m ≡ false) z (sym g ∙ e)
-      go j (inr q) = passed.none j (omega arith)
-
   pub leftmost_is : (n : ℕ) → i < n → f i ≡ true → i ≡ leftmost f n
   leftmost_is n h e = go (ltb (leftmost f n) i) refl (ltb i (leftmost f n)) refl
     where

@@ -1,4 +1,4 @@
 pub mod Tables
 pub mod Places
 pub mod Leftmost
-pub mod Filled
+pub mod inner

@@ -11,7 +11,7 @@ use lib.Dec.{T, ltb, leb, eqb, ltb→lt, lt→ltb, leb→le, le→leb, eqb→eq,
 use lib.ListN.{length}
 use Rattle.lists.specs.Places.{at}
 use Rattle.sets.specs.Sets.{all_below, within}
-use Rattle.sets.proofs.Truth.{and_i, and_l, and_r, or_cases, true_yes}
+use Rattle.sets.proofs.Truth.{and_i, and_l, and_r, or_cases}
 use Rattle.sets.proofs.Below.{all_below_iff}
 use Rattle.layout.specs.Layout.{most_board, most_steps, most_links, most_preds, labels_at, board_at, begin_at, link_at, log_length}
 use Rattle.log_buffer.specs.Meaning.{steps_in}
@@ -33,19 +33,19 @@ pub record Sound (count : ℕ) (b : List ℕ) : Type 0 where
   pub bare : at b (labels_at 0) ≡ 0
   pub labelled : (v : ℕ) → v < steps_in b → (v ≡ 0 → ⊥) → at b (labels_at v) < 2 ^ count
   pub boarded : (v : ℕ) → v < steps_in b → at b (board_at v) ≤ most_board
-  pub no_labels : (v : ℕ) → steps_in b ≤ v → v < 1024 → at b (labels_at v) ≡ 0
-  pub no_board : (v : ℕ) → steps_in b ≤ v → v < 1024 → at b (board_at v) ≡ 0
+  pub no_labels : (v : ℕ) → steps_in b ≤ v → v < most_steps → at b (labels_at v) ≡ 0
+  pub no_board : (v : ℕ) → steps_in b ≤ v → v < most_steps → at b (board_at v) ≡ 0
   -- where links begin
   pub start : begin b 0 ≡ 0
   pub unlinked : begin b 1 ≡ begin b 0
   pub linked : (v : ℕ) → v < steps_in b → (v ≡ 0 → ⊥) → begin b v < begin b (v + 1)
   pub at_most : (v : ℕ) → v < steps_in b → begin b (v + 1) ≤ begin b v + most_preds
-  pub no_begin : (v : ℕ) → steps_in b ≤ v → v < 1024 → begin b (v + 1) ≡ 0
+  pub no_begin : (v : ℕ) → steps_in b ≤ v → v < most_steps → begin b (v + 1) ≡ 0
   pub few_links : begin b (steps_in b) ≤ most_links
   -- the links
   pub below : (v k : ℕ) → v < steps_in b → k < width b v → at b (link_at (begin b v + k)) < v
   pub rising : (v k : ℕ) → v < steps_in b → suc k < width b v → at b (link_at (begin b v + k)) < at b (link_at (begin b v + suc k))
-  pub rest : (i : ℕ) → begin b (steps_in b) ≤ i → i < 4096 → at b (link_at i) ≡ 0
+  pub rest : (i : ℕ) → begin b (steps_in b) ≤ i → i < most_links → at b (link_at i) ≡ 0
 
 -- ---- tests
 
@@ -235,27 +235,27 @@ each_iff n f h = (λ t v l. (h v).0 ((all_below_iff n f).0 t v l), λ q. (all_be
 
 module _ (count : ℕ) (b : List ℕ) where
   abbrev links_on : Bool
-  links_on = all_below 1024 (links_ok b) && all_below 4096 (rest_ok b)
+  links_on = all_below most_steps (links_ok b) && all_below most_links (rest_ok b)
 
   abbrev total_on : Bool
   total_on = leb (begin b (steps_in b)) most_links && links_on
 
   abbrev values_on : Bool
-  values_on = all_below 1024 (values_ok count b) && graph_ok b
+  values_on = all_below most_steps (values_ok count b) && graph_ok b
 
   abbrev Graph : Type 0
-  Graph = (begin b 0 ≡ 0) × (((v : ℕ) → v < 1024 → Begins b v) × ((begin b (steps_in b) ≤ most_links)
-      × (((v : ℕ) → v < 1024 → Links b v) × ((i : ℕ) → i < 4096 → begin b (steps_in b) ≤ i → at b (link_at i) ≡ 0))))
+  Graph = (begin b 0 ≡ 0) × (((v : ℕ) → v < most_steps → Begins b v) × ((begin b (steps_in b) ≤ most_links)
+      × (((v : ℕ) → v < most_steps → Links b v) × ((i : ℕ) → i < most_links → begin b (steps_in b) ≤ i → at b (link_at i) ≡ 0))))
 
   graph_iff : T (graph_ok b) ↔ Graph
   graph_iff =
-      and_iff (eqb (begin b 0) 0) (all_below 1024 (begin_ok b) && total_on) (eqb→eq (begin b 0) 0, eq→eqb (begin b 0) 0)
-      (and_iff (all_below 1024 (begin_ok b)) total_on (each_iff 1024 (begin_ok b) (begins_iff b))
+      and_iff (eqb (begin b 0) 0) (all_below most_steps (begin_ok b) && total_on) (eqb→eq (begin b 0) 0, eq→eqb (begin b 0) 0)
+      (and_iff (all_below most_steps (begin_ok b)) total_on (each_iff most_steps (begin_ok b) (begins_iff b))
       (and_iff (leb (begin b (steps_in b)) most_links) links_on (le_iff (begin b (steps_in b)) most_links)
-      (and_iff (all_below 1024 (links_ok b)) (all_below 4096 (rest_ok b)) (each_iff 1024 (links_ok b) (links_iff b)) (each_iff 4096 (rest_ok b) (rest_iff b)))))
+      (and_iff (all_below most_steps (links_ok b)) (all_below most_links (rest_ok b)) (each_iff most_steps (links_ok b) (links_iff b)) (each_iff most_links (rest_ok b) (rest_iff b)))))
 
   abbrev Parts : Type 0
-  Parts = (log_length ≤ length b) × ((1 ≤ steps_in b) × ((steps_in b ≤ most_steps) × (((v : ℕ) → v < 1024 → Values count b v) × Graph)))
+  Parts = (log_length ≤ length b) × ((1 ≤ steps_in b) × ((steps_in b ≤ most_steps) × (((v : ℕ) → v < most_steps → Values count b v) × Graph)))
 
   parts_iff : T (is_log count b) ↔ Parts
   unfolding is_log
@@ -263,7 +263,7 @@ module _ (count : ℕ) (b : List ℕ) where
       and_iff (leb log_length (length b)) (leb 1 (steps_in b) && (leb (steps_in b) most_steps && values_on)) (le_iff log_length (length b))
       (and_iff (leb 1 (steps_in b)) (leb (steps_in b) most_steps && values_on) (le_iff 1 (steps_in b))
       (and_iff (leb (steps_in b) most_steps) values_on (le_iff (steps_in b) most_steps)
-      (and_iff (all_below 1024 (values_ok count b)) (graph_ok b) (each_iff 1024 (values_ok count b) (values_iff count b)) graph_iff)))
+      (and_iff (all_below most_steps (values_ok count b)) (graph_ok b) (each_iff most_steps (values_ok count b) (values_iff count b)) graph_iff)))
 
   sound_out : Parts → Sound count b
   sound_out p =
@@ -301,16 +301,16 @@ module _ (count : ℕ) (b : List ℕ) where
   sound_in : Sound count b → Parts
   sound_in s = (s.long, (s.started, (s.few_steps, (values, (s.start, (begins, (s.few_links, links)))))))
     where
-      links : ((v : ℕ) → v < 1024 → Links b v) × ((i : ℕ) → i < 4096 → begin b (steps_in b) ≤ i → at b (link_at i) ≡ 0)
+      links : ((v : ℕ) → v < most_steps → Links b v) × ((i : ℕ) → i < most_links → begin b (steps_in b) ≤ i → at b (link_at i) ≡ 0)
       links = (λ v l. (s.below v, s.rising v), λ i l h. s.rest i h l)
 
-      values : (v : ℕ) → v < 1024 → Values count b v
+      values : (v : ℕ) → v < most_steps → Values count b v
       values v l = (
         λ h. ((λ z. ap (λ (k : ℕ). at b (labels_at k)) z ∙ s.bare, λ n. s.labelled v h n), s.boarded v h),
         λ h. (s.no_labels v h l, s.no_board v h l),
       )
 
-      begins : (v : ℕ) → v < 1024 → Begins b v
+      begins : (v : ℕ) → v < most_steps → Begins b v
       begins v l = (λ h. (λ z. same z, λ n. (s.linked v h n, s.at_most v h)), λ h. s.no_begin v h l)
         where
           same : v ≡ 0 → begin b (v + 1) ≡ begin b v
@@ -318,10 +318,6 @@ module _ (count : ℕ) (b : List ℕ) where
 
   pub sound_iff : T (is_log count b) ↔ Sound count b
   sound_iff = (λ t. sound_out (parts_iff.0 t), λ s. parts_iff.1 (sound_in s))
-
--- for code that asked the test
-pub sound_from : (count : ℕ) (b : List ℕ) (r : Bool) → r ≡ is_log count b → r ≡ true → Sound count b
-sound_from count b r e f = (sound_iff count b).0 (true_yes (is_log count b) (sym e ∙ f))
 
 -- ---- where links stand
 
@@ -341,5 +337,3 @@ module _ {count : ℕ} {b : List ℕ} (s : Sound count b) where
 
   pub begin_inside : (v : ℕ) → v ≤ steps_in b → begin b v ≤ most_links
   begin_inside v h = let r = begin_rises v (steps_in b) h (omega arith) in let k = s.few_links in omega arith
-
-pub ruleset begin_laws = (begin_next, begin_rises, begin_inside)

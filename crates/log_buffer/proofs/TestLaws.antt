@@ -49,10 +49,10 @@ begin_up b v h t = go (eqb v 0) (simp (lt-ltb v (steps_in b) h) at t)
         (and_l (ltb (at b (begin_at v)) (at b (begin_at (v + 1)))) (leb (at b (begin_at (v + 1))) (at b (begin_at v) + most_preds)) u) in
         omega arith
 
-pub begin_in : (b : List ℕ) (v : ℕ) → steps_in b ≤ most_steps → all_below 1024 (begin_ok b) ≡ true → at b (begin_at (steps_in b)) ≤ most_links → v < steps_in b
+pub begin_in : (b : List ℕ) (v : ℕ) → steps_in b ≤ most_steps → all_below most_steps (begin_ok b) ≡ true → at b (begin_at (steps_in b)) ≤ most_links → v < steps_in b
     → at b (begin_at (v + 1)) ≤ most_links
 begin_in b v few t most h =
-    let each = all_out 1024 (begin_ok b) (true_yes (all_below 1024 (begin_ok b)) t) in
+    let each = all_out most_steps (begin_ok b) (true_yes (all_below most_steps (begin_ok b)) t) in
     let up : (w : ℕ) → w < steps_in b → at b (begin_at w) ≤ at b (begin_at (w + 1)) = λ w l. begin_up b w l (each w (omega arith)) in
     let d : ℕ = steps_in b - (v + 1) in
     let k = rises (λ w. at b (begin_at w)) (steps_in b) up d (v + 1) (omega arith) in
@@ -63,8 +63,8 @@ begin_in b v few t most h =
 -- ---- the places past the last link
 
 pub rest_told : (b : List ℕ) (t : ℕ) (r : Bool) → t ≡ at b (begin_at (steps_in b)) → t ≤ most_links
-    → r ≡ all_below (most_links - t) (λ k. eqb (at b (link_at (t + k))) 0) → r ≡ all_below 4096 (rest_ok b)
-rest_told b t r e few told = told ∙ same (all_below (4096 - t) zeros) (all_below 4096 (rest_ok b)) forth back
+    → r ≡ all_below (most_links - t) (λ k. eqb (at b (link_at (t + k))) 0) → r ≡ all_below most_links (rest_ok b)
+rest_told b t r e few told = told ∙ same (all_below (most_links - t) zeros) (all_below most_links (rest_ok b)) forth back
   where
     zeros : ℕ → Bool
     zeros k = eqb (at b (link_at (t + k))) 0
@@ -72,19 +72,19 @@ rest_told b t r e few told = told ∙ same (all_below (4096 - t) zeros) (all_bel
     unused : ℕ → Bool
     unused i = eqb (at b (link_at i)) 0
 
-    forth : T (all_below (4096 - t) zeros) → T (all_below 4096 (rest_ok b))
-    forth a = all_in 4096 (rest_ok b) (λ i l. go i l (ltb i (at b (begin_at (steps_in b)))) refl)
+    forth : T (all_below (most_links - t) zeros) → T (all_below most_links (rest_ok b))
+    forth a = all_in most_links (rest_ok b) (λ i l. go i l (ltb i (at b (begin_at (steps_in b)))) refl)
       where
-        go : (i : ℕ) → i < 4096 → (c : Bool) → ltb i (at b (begin_at (steps_in b))) ≡ c → T (rest_ok b i)
+        go : (i : ℕ) → i < most_links → (c : Bool) → ltb i (at b (begin_at (steps_in b))) ≡ c → T (rest_ok b i)
         go i l true q = or_l (ltb i (at b (begin_at (steps_in b)))) (unused i) (true_yes (ltb i (at b (begin_at (steps_in b)))) q)
         go i l false q =
             let h = ltb-false i (at b (begin_at (steps_in b))) q in
             let z : t + (i - t) ≡ i = omega arith in
             or_r (ltb i (at b (begin_at (steps_in b)))) (unused i)
-            (subst (λ (n : ℕ). T (unused n)) z (all_out (4096 - t) zeros a (i - t) (omega arith)))
+            (subst (λ (n : ℕ). T (unused n)) z (all_out (most_links - t) zeros a (i - t) (omega arith)))
 
-    back : T (all_below 4096 (rest_ok b)) → T (all_below (4096 - t) zeros)
-    back a = all_in (4096 - t) zeros (λ k l. pick k (or_cases (ltb (t + k) (at b (begin_at (steps_in b)))) (unused (t + k)) (all_out 4096 (rest_ok b) a (t + k) (omega arith))))
+    back : T (all_below most_links (rest_ok b)) → T (all_below (most_links - t) zeros)
+    back a = all_in (most_links - t) zeros (λ k l. pick k (or_cases (ltb (t + k) (at b (begin_at (steps_in b)))) (unused (t + k)) (all_out most_links (rest_ok b) a (t + k) (omega arith))))
       where
         pick : (k : ℕ) → T (ltb (t + k) (at b (begin_at (steps_in b)))) ⊎ T (unused (t + k)) → T (zeros k)
         pick k (inl x) = let h = ltb→lt (t + k) (at b (begin_at (steps_in b))) x in absurd (omega arith)

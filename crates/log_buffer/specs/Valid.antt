@@ -36,9 +36,9 @@ rest_ok b i = ltb i (at b (begin_at (steps_in b))) || eqb (at b (link_at i)) 0
 abbrev pub graph_ok : List ℕ → Bool
 graph_ok b =
     eqb (at b (begin_at 0)) 0
-    && (all_below 1024 (begin_ok b) && (leb (at b (begin_at (steps_in b))) most_links && (all_below 1024 (links_ok b) && all_below 4096 (rest_ok b))))
+    && (all_below most_steps (begin_ok b) && (leb (at b (begin_at (steps_in b))) most_links && (all_below most_steps (links_ok b) && all_below most_links (rest_ok b))))
 
 unfoldable pub is_log : ℕ → List ℕ → Bool
 is_log count b =
     leb log_length (length b)
-    && (leb 1 (steps_in b) && (leb (steps_in b) most_steps && (all_below 1024 (values_ok count b) && graph_ok b)))
+    && (leb 1 (steps_in b) && (leb (steps_in b) most_steps && (all_below most_steps (values_ok count b) && graph_ok b)))

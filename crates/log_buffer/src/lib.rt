@@ -94,7 +94,7 @@ impl<'a> LogNumbers<'a> {
 
     // The places where the links of all steps begin.
     fn all_begins(&self) -> bool
-        ensures { result ≡ all_below 1024 (begin_ok self.now) }
+        ensures { result ≡ all_below most_steps (begin_ok self.now) }
     {
         (0..layout::MOST_STEPS).all(|v| self.begin_ok(v))
     }
@@ -120,9 +120,9 @@ impl<'a> LogNumbers<'a> {
     // The links of all steps, whose places have been looked at.
     fn all_links(&self) -> bool
         requires steps_bound { steps_in self.now ≤ most_steps }
-        requires begins { all_below 1024 (begin_ok self.now) ≡ true }
+        requires begins { all_below most_steps (begin_ok self.now) ≡ true }
         requires total_bound { at self.now (begin_at (steps_in self.now)) ≤ most_links }
-        ensures { result ≡ all_below 1024 (links_ok self.now) }
+        ensures { result ≡ all_below most_steps (links_ok self.now) }
     {
         (0..layout::MOST_STEPS).all(|v| self.links_ok(v))
     }
@@ -131,7 +131,7 @@ impl<'a> LogNumbers<'a> {
     fn all_rest(&self) -> bool
         requires steps_bound { steps_in self.now ≤ most_steps }
         requires total_bound { at self.now (begin_at (steps_in self.now)) ≤ most_links }
-        ensures { result ≡ all_below 4096 (rest_ok self.now) }
+        ensures { result ≡ all_below most_links (rest_ok self.now) }
     {
         let total = self.begin(self.steps());
         (total..layout::MOST_LINKS).all(|i| self.link(i) == 0)

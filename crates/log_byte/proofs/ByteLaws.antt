@@ -14,6 +14,7 @@ use Rattle.line_places.specs.Place.{as_place, place_at, unprintable_place, broke
 use Rattle.std.specs.Prelude.{Option, None, unwrap_or, Result, Ok, Err}
 use Rattle.line_places.proofs.PlaceLaws.{place_out, place_most}
 use Rattle.line_places.proofs.LineLaws.{unprintable_most, ranked_broken, ranked_whole, whole_ordered, whole_inside}
+use Rattle.layout.specs.Layout.{most_line}
 use Rattle.log_line.specs.Header.{Columns}
 use Rattle.log_line.specs.Answers.{order_of}
 use Rattle.log_line.specs.declared.header.ColumnOrder.{ColumnOrder}
@@ -59,11 +60,11 @@ ranked_most most l p h = go (whole most l) refl
     go false e = broken (leb (length l.bytes) most && l.newline) refl
 
 -- Whatever the text, the number and the line.
-pub byte_fits : (text : List ℕ) (number n : ℕ) → log_byte text number n ≤ 241
+pub byte_fits : (text : List ℕ) (number n : ℕ) → log_byte text number n ≤ most_line + 1
 unfolding log_byte
 byte_fits text number n =
-    cond_most (ltb number 21) 0 _ 241 (omega arith)
-    (ranked_most 240 (line_at text n) (place_in text number n (line_at text n).bytes) (in_most text number n (line_at text n).bytes))
+    cond_most (ltb number 21) 0 _ (most_line + 1) (omega arith)
+    (ranked_most most_line (line_at text n) (place_in text number n (line_at text n).bytes) (in_most text number n (line_at text n).bytes))
 
 -- ---- the answer of `byte_of`
 
@@ -71,15 +72,15 @@ pub byte_early : (text : List ℕ) (number n : ℕ) → number < 21 → 0 ≡ lo
 unfolding log_byte
 byte_early text number n h = sym (simp (lt-ltb number 21 h))
 
-module _ (text : List ℕ) (number n : ℕ) (o : Option ℕ) (given : o ≡ as_place (ranked_at 240 (line_at text n) (place_in text number n (line_at text n).bytes)))
+module _ (text : List ℕ) (number n : ℕ) (o : Option ℕ) (given : o ≡ as_place (ranked_at most_line (line_at text n) (place_in text number n (line_at text n).bytes)))
     (v : ℕ) (e : v ≡ unwrap_or o 0) where
-  value : v ≡ ranked_at 240 (line_at text n) (place_in text number n (line_at text n).bytes)
-  value = e ∙ ap (λ (p : Option ℕ). unwrap_or p 0) given ∙ place_out (ranked_at 240 (line_at text n) (place_in text number n (line_at text n).bytes))
+  value : v ≡ ranked_at most_line (line_at text n) (place_in text number n (line_at text n).bytes)
+  value = e ∙ ap (λ (p : Option ℕ). unwrap_or p 0) given ∙ place_out (ranked_at most_line (line_at text n) (place_in text number n (line_at text n).bytes))
 
   pub ranked_fits : v < 2 ^ 16
   ranked_fits =
       let f = value in
-      let h = ranked_most 240 (line_at text n) (place_in text number n (line_at text n).bytes) (in_most text number n (line_at text n).bytes) in
+      let h = ranked_most most_line (line_at text n) (place_in text number n (line_at text n).bytes) (in_most text number n (line_at text n).bytes) in
       omega arith
 
   pub byte_ranked : 21 ≤ number → v ≡ log_byte text number n
@@ -90,14 +91,14 @@ pub ruleset byte_kit = (byte_early, ranked_fits, byte_ranked)
 
 -- ---- a line by its number
 
-module _ (text : List ℕ) (number n : ℕ) (r : Result (ℕ × ℕ) (Option ℕ)) (given : r ≡ found_line 240 text n) where
-  pub line_broken : (p : Option ℕ) → r ≡ Err p → p ≡ as_place (ranked_at 240 (line_at text n) (place_in text number n (line_at text n).bytes))
-  line_broken p q = ranked_broken 240 text n r given p (place_in text number n (line_at text n).bytes) q
+module _ (text : List ℕ) (number n : ℕ) (r : Result (ℕ × ℕ) (Option ℕ)) (given : r ≡ found_line most_line text n) where
+  pub line_broken : (p : Option ℕ) → r ≡ Err p → p ≡ as_place (ranked_at most_line (line_at text n) (place_in text number n (line_at text n).bytes))
+  line_broken p q = ranked_broken most_line text n r given p (place_in text number n (line_at text n).bytes) q
 
   module _ (x y : ℕ) (q : r ≡ Ok (x, y)) where
     pub line_whole : (v : Option ℕ) → v ≡ as_place (place_in text number n (take (y - x) (drop x text)))
-        → v ≡ as_place (ranked_at 240 (line_at text n) (place_in text number n (line_at text n).bytes))
-    line_whole v e = ranked_whole 240 text n r given x y q (place_in text number n) v e
+        → v ≡ as_place (ranked_at most_line (line_at text n) (place_in text number n (line_at text n).bytes))
+    line_whole v e = ranked_whole most_line text n r given x y q (place_in text number n) v e
 
 pub ruleset line_kit = (line_broken, whole_ordered, whole_inside, line_whole)
 

@@ -6,6 +6,7 @@ ghost use Rattle.text.specs.Split.{split};
 ghost use Rattle.log_line.specs.Answers.{order_of};
 ghost use Rattle.log_line.specs.Step.{step_at, link_count};
 ghost use Rattle.line_places.specs.Place.{as_place, line_at, ranked_at};
+ghost use Rattle.layout.specs.Layout.{most_line};
 ghost use Rattle.log_places.specs.Place.{limit_at};
 ghost use Rattle.log_byte.specs.Byte.{columns_named, steps_before, place_in, log_byte};
 
@@ -89,11 +90,11 @@ fn place_in(text: &[u8], number: u16, line: u16, bytes: &[u8]) -> Option<usize>
     }
 }
 
-// What makes the line not whole ranks before what is wrong in its fields. As in `pattern_byte`, over this format's `place_in`, which takes the text too:
-// one function for both would be a closure's, and no shorter.
+// What makes the line not whole ranks before what is wrong in its fields. As in `pattern_byte`, over this format's `place_in`, which takes the text
+// too: one function for both would be a closure's, and no shorter.
 #[tactic(auto, using(crate::proofs::ByteLaws::line_kit))]
 fn ranked_place(text: &[u8], number: u16, line: u16) -> Option<usize>
-    ensures { result ≡ as_place (ranked_at 240 (line_at text.now line) (place_in text.now number line (line_at text.now line).bytes)) }
+    ensures { result ≡ as_place (ranked_at most_line (line_at text.now line) (place_in text.now number line (line_at text.now line).bytes)) }
 {
     match inspect_line(text, usize::from(line), layout::MOST_LINE) {
         Err(place) => place,

@@ -18,6 +18,7 @@ use Rattle.lists.proofs.Parts.{rest_part}
 use Rattle.line_places.specs.Place.{place_at, place_where, unprintable_place, broken_at, ranked_at, lines_bytes, line_at}
 use Rattle.line_places.proofs.FaultLaws.{field_at_fault, no_field, byte_at_fault as bad_byte}
 use Rattle.line_places.proofs.LineLaws.{place_printable, bytes_step}
+use Rattle.layout.specs.Layout.{most_log_text, most_line}
 use Rattle.log_line.specs.Header.{Columns, columns_of, is_header}
 use Rattle.log_line.specs.Step.{Step, step_at, malformed, misnumbered, mislinked, mislabelled, link_count, over_limit}
 use Rattle.log_line.specs.Format.{Known, judge_line, conclude, log_text}
@@ -35,11 +36,11 @@ clash false p q = let z : ◌≡◌ {A = ℕ} 0 1 = cc in absurd (omega arith)
 -- ---- the byte of a line, whole or not
 
 module _ (text : List ℕ) (number n : ℕ) (late : 21 ≤ number) where
-  byte_broken : whole 240 (line_at text n) ≡ false → log_byte text number n ≡ broken_at 240 (line_at text n)
+  byte_broken : whole most_line (line_at text n) ≡ false → log_byte text number n ≡ broken_at most_line (line_at text n)
   unfolding log_byte ranked_at
   byte_broken w = rw (le-ltb number 21 late, w) refl
 
-  byte_whole : whole 240 (line_at text n) ≡ true → log_byte text number n ≡ place_in text number n (line_at text n).bytes
+  byte_whole : whole most_line (line_at text n) ≡ true → log_byte text number n ≡ place_in text number n (line_at text n).bytes
   unfolding log_byte ranked_at
   byte_whole w = rw (le-ltb number 21 late, w) refl
 
@@ -50,27 +51,27 @@ module _ (count : ℕ) (text : List ℕ) where
 
   -- ---- a line that is not whole
 
-  broken_line : (n : ℕ) → whole 240 (line_at text n) ≡ false → Placed count text 21 n (log_byte text 21 n)
-  broken_line n w = go (leb (length (bytes_at text n)) 240) refl (line_at text n).newline refl
+  broken_line : (n : ℕ) → whole most_line (line_at text n) ≡ false → Placed count text 21 n (log_byte text 21 n)
+  broken_line n w = go (leb (length (bytes_at text n)) most_line) refl (line_at text n).newline refl
     where
-      byte : log_byte text 21 n ≡ broken_at 240 (line_at text n)
+      byte : log_byte text 21 n ≡ broken_at most_line (line_at text n)
       byte = byte_broken text 21 n (omega arith) w
 
-      go : (s : Bool) → leb (length (bytes_at text n)) 240 ≡ s → (t : Bool) → (line_at text n).newline ≡ t → Placed count text 21 n (log_byte text 21 n)
-      go false p t q = at 21 n 0 (byte ∙ rw p refl) (long (leb-false (length (bytes_at text n)) 240 p))
-      go true p false q = at 21 n 0 (byte ∙ rw (p, q) refl) (unended (leb-true (length (bytes_at text n)) 240 p) q)
+      go : (s : Bool) → leb (length (bytes_at text n)) most_line ≡ s → (t : Bool) → (line_at text n).newline ≡ t → Placed count text 21 n (log_byte text 21 n)
+      go false p t q = at 21 n 0 (byte ∙ rw p refl) (long (leb-false (length (bytes_at text n)) most_line p))
+      go true p false q = at 21 n 0 (byte ∙ rw (p, q) refl) (unended (leb-true (length (bytes_at text n)) most_line p) q)
       go true p true q =
           at 21 n (unprintable_place (bytes_at text n)) (byte ∙ rw (p, q) refl)
-          (unprintable (leb-true (length (bytes_at text n)) 240 p) q
-          (bad_byte (bytes_at text n) (λ z. clash (whole 240 (line_at text n)) (rw (p, q, place_printable (bytes_at text n) z) refl) w)))
+          (unprintable (leb-true (length (bytes_at text n)) most_line p) q
+          (bad_byte (bytes_at text n) (λ z. clash (whole most_line (line_at text n)) (rw (p, q, place_printable (bytes_at text n) z) refl) w)))
 
   -- ---- the header
 
-  header_byte : whole 240 (line_at text 1) ≡ true → log_byte text 22 1 ≡ header_at (fields_at text 1)
+  header_byte : whole most_line (line_at text 1) ≡ true → log_byte text 22 1 ≡ header_at (fields_at text 1)
   unfolding place_in
   header_byte w = byte_whole text 22 1 (omega arith) w
 
-  header_line : whole 240 (line_at text 1) ≡ true → is_header (fields_at text 1) ≡ false → Placed count text 22 1 (log_byte text 22 1)
+  header_line : whole most_line (line_at text 1) ≡ true → is_header (fields_at text 1) ≡ false → Placed count text 22 1 (log_byte text 22 1)
   header_line w h = go (ℕ_discrete (header_at (fields_at text 1)) 0)
     where
       go : Dec (header_at (fields_at text 1) ≡ 0) → Placed count text 22 1 (log_byte text 22 1)
@@ -81,9 +82,9 @@ module _ (count : ℕ) (text : List ℕ) where
   started = record { columns = columns_of (fields_at text 1); steps = [] }
 
   bad_header : (s : Known) (k : ℕ) → judge_line count s 1 (line_at text 1) ≡ refused k → Placed count text k 1 (log_byte text k 1)
-  bad_header s k e = go (whole 240 (line_at text 1)) refl (is_header (fields_at text 1)) refl e
+  bad_header s k e = go (whole most_line (line_at text 1)) refl (is_header (fields_at text 1)) refl e
     where
-      go : (a : Bool) → whole 240 (line_at text 1) ≡ a → (b : Bool) → is_header (fields_at text 1) ≡ b
+      go : (a : Bool) → whole most_line (line_at text 1) ≡ a → (b : Bool) → is_header (fields_at text 1) ≡ b
           → cond a (cond b (passed started) (refused 22)) (refused 21) ≡ refused k
           → Placed count text k 1 (log_byte text k 1)
       go false p b q f = let z : ◌≡◌ {A = ℕ} 21 k = cc in subst (λ (j : ℕ). Placed count text j 1 (log_byte text j 1)) z (broken_line 1 p)
@@ -166,7 +167,7 @@ module _ (count : ℕ) (text : List ℕ) where
   bad_step k n b =
       let e = subst (λ (s : Known). judge_line count s n (line_at text n) ≡ refused k) (known_is b.known (columns_named text) (steps_before text n) b.at.columns b.at.steps) b.judged in
       let h = b.later in
-      go (record { columns = columns_named text; steps = steps_before text n ++ (said_at text n ∷ []) }) (whole 240 (line_at text n)) refl
+      go (record { columns = columns_named text; steps = steps_before text n ++ (said_at text n ∷ []) }) (whole most_line (line_at text n)) refl
       (malformed (columns_named text) (fields_at text n)) refl
       (misnumbered (columns_named text) n (fields_at text n)) refl
       (mislinked (step_at n) (said_at text n).preds) refl
@@ -177,10 +178,10 @@ module _ (count : ℕ) (text : List ℕ) where
       moved : (j : ℕ) → ◌≡◌ {A = Judged Known} (refused j) (refused k) → Placed count text j n (log_byte text j n) → Placed count text k n (log_byte text k n)
       moved j e p = let z : ◌≡◌ {A = ℕ} j k = cc in subst (λ (i : ℕ). Placed count text i n (log_byte text i n)) z p
 
-      under : whole 240 (line_at text n) ≡ true → Below text n
+      under : whole most_line (line_at text n) ≡ true → Below text n
       under w = record { later = b.later; header = b.at.header; whole = w }
 
-      go : (t : Known) → (w : Bool) → whole 240 (line_at text n) ≡ w
+      go : (t : Known) → (w : Bool) → whole most_line (line_at text n) ≡ w
           → (m : Bool) → malformed (columns_named text) (fields_at text n) ≡ m
           → (u : Bool) → misnumbered (columns_named text) n (fields_at text n) ≡ u
           → (p : Bool) → mislinked (step_at n) (said_at text n).preds ≡ p
@@ -209,7 +210,7 @@ module _ (count : ℕ) (text : List ℕ) where
   first_line : {l : TextLine} {ls : List TextLine} → lines_of text ≡ l ∷ ls → l ≡ line_at text 1
   first_line e = sym (rw e refl)
 
-  none_byte : whole 240 (line_at text 1) ≡ true → log_byte text 26 1 ≡ 0
+  none_byte : whole most_line (line_at text 1) ≡ true → log_byte text 26 1 ≡ 0
   unfolding place_in
   none_byte w = byte_whole text 26 1 (omega arith) w
 
@@ -248,13 +249,13 @@ module _ (count : ℕ) (text : List ℕ) where
 
 -- Whatever the text is refused with, its byte stands where the table says.
 pub byte_at_fault : (count : ℕ) (text : List ℕ) (number line : ℕ) → log_text count text ≡ faulty number line → Placed count text number line (log_byte text number line)
-byte_at_fault count text number line e = go (bad_size 65535 text) refl e
+byte_at_fault count text number line e = go (bad_size most_log_text text) refl e
   where
-    some : (t : Bool) → eqb (length text) 0 ≡ t → (t || ltb 65535 (length text)) ≡ false → 0 < length text
+    some : (t : Bool) → eqb (length text) 0 ≡ t → (t || ltb most_log_text (length text)) ≡ false → 0 < length text
     some true p q = let z : ◌≡◌ {A = ℕ} 0 1 = cc in absurd (omega arith)
     some false p q = let n = eqb-false (length text) 0 p in omega arith
 
-    go : (t : Bool) → bad_size 65535 text ≡ t
+    go : (t : Bool) → bad_size most_log_text text ≡ t
         → conclude (cond t (faulty 20 0) (walk (judge_line count) (record { columns = columns_of []; steps = [] }) 1 (lines_of text))) ≡ faulty number line
         → Placed count text number line (log_byte text number line)
     go true p f =

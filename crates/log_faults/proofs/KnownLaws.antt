@@ -12,6 +12,7 @@ use Rattle.text.specs.Lines.{TextLine, lines_of, whole}
 use Rattle.text.specs.Walk.{Judged, refused, passed}
 use Rattle.text.specs.FirstBad.{AllPass, done, next, FirstBad, here, later}
 use Rattle.line_places.specs.Place.{line_at, lines_bytes}
+use Rattle.layout.specs.Layout.{most_line}
 use Rattle.log_line.specs.Header.{columns_of, is_header}
 use Rattle.log_line.specs.Step.{Step, step_of, step_at, malformed, misnumbered, mislinked, mislabelled, over_limit}
 use Rattle.log_line.specs.Format.{Known, judge_line}
@@ -23,15 +24,15 @@ no : {A : Type 0} {k : ℕ} {t : Known} → ◌≡◌ {A = Judged Known} (refuse
 no e = let z : ◌≡◌ {A = ℕ} 0 1 = cc in absurd (omega arith)
 
 pub record HeaderPassed (l : TextLine) (t : Known) : Type 0 where
-  pub whole : whole 240 l ≡ true
+  pub whole : whole most_line l ≡ true
   pub header : is_header (split 32 l.bytes) ≡ true
   pub columns : t.columns ≡ columns_of (split 32 l.bytes)
   pub steps : t.steps ≡ []
 
 pub header_passed : (count : ℕ) (s t : Known) (l : TextLine) → judge_line count s 1 l ≡ passed t → HeaderPassed l t
-header_passed count s t l e = go (whole 240 l) refl (is_header (split 32 l.bytes)) refl e
+header_passed count s t l e = go (whole most_line l) refl (is_header (split 32 l.bytes)) refl e
   where
-    go : (a : Bool) → whole 240 l ≡ a → (b : Bool) → is_header (split 32 l.bytes) ≡ b
+    go : (a : Bool) → whole most_line l ≡ a → (b : Bool) → is_header (split 32 l.bytes) ≡ b
         → cond a (cond b (passed (record { columns = columns_of (split 32 l.bytes); steps = [] })) (refused 22)) (refused 21) ≡ passed t → HeaderPassed l t
     go false p b q f = no f
     go true p false q f = no f
@@ -49,7 +50,7 @@ module _ (count : ℕ) (s t : Known) (n : ℕ) (l : TextLine) (below : 1 < n) wh
 
   pub step_passed : judge_line count s n l ≡ passed t → StepPassed s l t
   step_passed e =
-      go (whole 240 l)
+      go (whole most_line l)
       (malformed s.columns (split 32 l.bytes))
       (misnumbered s.columns n (split 32 l.bytes))
       (mislinked (step_at n) (step_of s.columns (split 32 l.bytes)).preds)

@@ -11,7 +11,7 @@ use lib.Seq.{take_all}
 use Rattle.text.specs.Split.{joined, line_from}
 use Rattle.numbers.specs.Numbers.{spell}
 use Rattle.numbers.specs.Listed.{list_word}
-use Rattle.layout.specs.Layout.{most_labels, log_length}
+use Rattle.layout.specs.Layout.{most_labels, log_length, most_steps, most_links, most_preds, begin_at, link_at}
 use Rattle.log_buffer.specs.Meaning.{steps_in}
 use Rattle.log_buffer.specs.Valid.{is_log}
 use Rattle.log_buffer.proofs.Sound.{Sound, sound_iff, begin_next, begin_inside}
@@ -35,6 +35,7 @@ pub ruleset preds_kit = (kit, links_word)
 -- `vertex board labels preds`, and its newline
 pub header_is :
     header_line
+    -- `vertex board labels preds\n`
     ≡ 118 ∷ 101 ∷ 114 ∷ 116 ∷ 101 ∷ 120 ∷ 32 ∷ 98 ∷ 111 ∷ 97 ∷ 114 ∷ 100 ∷ 32 ∷ 108 ∷ 97 ∷ 98 ∷ 101 ∷ 108 ∷ 115 ∷ 32 ∷ 112 ∷ 114 ∷ 101 ∷ 100 ∷ 115
     ∷ 10 ∷ []
 unfolding joined
@@ -81,20 +82,20 @@ module _ (log : List ℕ) (t : T (is_log most_labels log)) where
   pub long : log_length ≤ length log
   long = sound.long
 
-  pub few_steps : get_or log 0 0 ≤ 1024
+  pub few_steps : get_or log 0 0 ≤ most_steps
   few_steps = sound.few_steps
 
-  pub begin_rises : (step : ℕ) → step < steps_in log → get_or log (2049 + step) 0 ≤ get_or log (2049 + (step + 1)) 0
+  pub begin_rises : (step : ℕ) → step < steps_in log → get_or log (begin_at step) 0 ≤ get_or log (begin_at (step + 1)) 0
   begin_rises step h = begin_next sound step h
 
-  pub few_links : (step : ℕ) → step < steps_in log → get_or log (2049 + (step + 1)) 0 ≤ get_or log (2049 + step) 0 + 8
+  pub few_links : (step : ℕ) → step < steps_in log → get_or log (begin_at (step + 1)) 0 ≤ get_or log (begin_at step) 0 + most_preds
   few_links step h = omega (arith, sound.at_most step h)
 
-  pub begin_most : (step : ℕ) → step ≤ steps_in log → get_or log (2049 + step) 0 ≤ 4096
+  pub begin_most : (step : ℕ) → step ≤ steps_in log → get_or log (begin_at step) 0 ≤ most_links
   begin_most step h = begin_inside sound step h
 
 -- The length of a part between two places counted from the first link.
-pub part_length : (a b : ℕ) → 3074 + b - (3074 + a) ≡ b - a
+pub part_length : (a b : ℕ) → link_at b - link_at a ≡ b - a
 part_length a b = omega arith
 
 pub ruleset step_kit = (kit, long, few_steps, begin_rises, few_links, begin_most, part_length)

@@ -2,6 +2,7 @@
 ghost use Rattle.std.specs.Prelude.{◌+◌, ◌^◌, ◌≤◌, ◌<◌, length};
 ghost use Rattle.text.specs.Split.{line_from};
 ghost use Rattle.numbers.specs.Listed.{list_word};
+ghost use Rattle.layout.specs.Layout.{most_preds};
 ghost use Rattle.log_line.specs.Step.{Step};
 ghost use Rattle.log_texts.specs.Spelled.{fields_of, header_line};
 ghost use Rattle.writing.specs.Put.{Adds};
@@ -19,7 +20,7 @@ pub fn put_header(output: &mut Output)
 // `-`, or the links joined by commas.
 #[tactic(auto, using(crate::proofs::LineLaws::preds_kit))]
 fn put_preds(output: &mut Output, preds: &[u16])
-    requires preds_len_bound { length preds.now ≤ 8 }
+    requires preds_len_bound { length preds.now ≤ most_preds }
     requires at_bound { output.old.at + 48 < 2 ^ 64 }
     ensures put { Adds (list_word preds.now) output.old output.new }
     ensures upper_bound { output.new.at ≤ output.old.at + 48 }
@@ -36,7 +37,7 @@ fn put_preds(output: &mut Output, preds: &[u16])
 // The line of a step with this board, this label set and these links.
 #[tactic(auto, using(crate::proofs::LineLaws::line_kit))]
 pub fn put_line(output: &mut Output, step: u16, board: u16, labels: u16, preds: &[u16])
-    requires preds_len_bound { length preds.now ≤ 8 }
+    requires preds_len_bound { length preds.now ≤ most_preds }
     requires at_bound { output.old.at + 67 < 2 ^ 64 }
     ensures put { Adds (line_from (fields_of step (record { board = board; labels = labels; preds = preds.now }))) output.old output.new }
     ensures upper_bound { output.new.at ≤ output.old.at + 67 }

@@ -10,6 +10,7 @@ use lib.ListN.{length, get_or, length-map}
 use Rattle.text.specs.Split.{split}
 use Rattle.numbers.specs.Numbers.{value_of}
 use Rattle.numbers.specs.Listed.{is_none, list_of}
+use Rattle.layout.specs.Layout.{most_steps, most_links, most_preds}
 use Rattle.log_line.specs.Header.{Columns}
 use Rattle.log_places.specs.Place.{over_limit_at}
 
@@ -27,18 +28,12 @@ pub ruleset count_kit = (links_none, links_some)
 -- ---- a field by its column
 
 module _ (before : ℕ) (c : Columns) (v : ℕ) (fs : List (List ℕ)) (i : ℕ) where
-  abbrev late : Bool
-  late = not (ltb v 1024)
-
-  abbrev many : ℕ → Bool
-  many n = ltb 8 n || ltb 4096 (before + n)
-
-  pub limit_late : i ≡ c.vertex → (t : Bool) → t ≡ not (ltb v 1024) → t ≡ true → true ≡ over_limit_at before c v fs i
+  pub limit_late : i ≡ c.vertex → (t : Bool) → t ≡ not (ltb v most_steps) → t ≡ true → true ≡ over_limit_at before c v fs i
   unfolding over_limit_at
   limit_late h t q e = sym (rw (eq-eqb i c.vertex h, sym q ∙ e) refl)
 
-  module _ (early : (eqb i c.vertex && not (ltb v 1024)) ≡ false) where
-    pub early_preds : i ≡ c.preds → (n : ℕ) → n ≡ length (list_of (get_or fs c.preds [])) → (u : Bool) → u ≡ (ltb 8 n || ltb 4096 (before + n)) → u ≡ over_limit_at before c v fs i
+  module _ (early : (eqb i c.vertex && not (ltb v most_steps)) ≡ false) where
+    pub early_preds : i ≡ c.preds → (n : ℕ) → n ≡ length (list_of (get_or fs c.preds [])) → (u : Bool) → u ≡ (ltb most_preds n || ltb most_links (before + n)) → u ≡ over_limit_at before c v fs i
     unfolding over_limit_at
     early_preds h n q u g = g ∙ sym (rw (early, eq-eqb i c.preds h, ← q) refl)
 
@@ -46,10 +41,10 @@ module _ (before : ℕ) (c : Columns) (v : ℕ) (fs : List (List ℕ)) (i : ℕ)
     unfolding over_limit_at
     early_other h = sym (rw (early, ne_eqb i c.preds h) refl)
 
-  pub other_column : (i ≡ c.vertex → ⊥) → (eqb i c.vertex && not (ltb v 1024)) ≡ false
+  pub other_column : (i ≡ c.vertex → ⊥) → (eqb i c.vertex && not (ltb v most_steps)) ≡ false
   other_column h = rw (ne_eqb i c.vertex h) refl
 
-  pub early_step : i ≡ c.vertex → (t : Bool) → t ≡ not (ltb v 1024) → t ≡ false → (eqb i c.vertex && not (ltb v 1024)) ≡ false
+  pub early_step : i ≡ c.vertex → (t : Bool) → t ≡ not (ltb v most_steps) → t ≡ false → (eqb i c.vertex && not (ltb v most_steps)) ≡ false
   early_step h t q e = rw (eq-eqb i c.vertex h) (sym q ∙ e)
 
 pub ruleset limit_kit = (limit_late, early_preds, early_other, other_column, early_step)

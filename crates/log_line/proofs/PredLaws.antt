@@ -19,9 +19,10 @@ use Rattle.std.specs.Prelude.{Option, Some, None, is_some, Result, Ok, Err}
 use Rattle.fields.proofs.FieldLaws.{count_some}
 use Rattle.numbers.specs.Listed.{is_none, is_list, list_of, are_numbers}
 use Rattle.log_line.specs.Step.{rising_below, mislinked}
-use Rattle.log_line.specs.Scan.{Formed, next_least}
+use Rattle.log_line.specs.inner.Scan.{Formed, next_least}
 use Rattle.fields.proofs.PartLaws.{parts_from, parts_all, parts_none, parts_step, part_fits, next_fits, next_in, rest_falls}
 use Rattle.numbers.proofs.ValueLaws.{stopped_none, ended_number, ended_value, ended_stop}
+use Rattle.layout.specs.Layout.{most_preds}
 
 -- ---- every part a number
 
@@ -134,14 +135,14 @@ pub stored_start : (l preds : List ℕ) → map value_of (split 44 l) ≡ take 0
 stored_start l preds = ap (map value_of) (parts_all 44 l)
 
 module _ (l : List ℕ) (at k : ℕ) (preds : List ℕ) (inv : map value_of (split 44 l) ≡ take k preds ++ numbers_from l at)
-    (size : length preds ≡ 8) (few : length (split 44 l) ≤ 8) (low : k ≤ 8) where
+    (size : length preds ≡ most_preds) (few : length (split 44 l) ≤ most_preds) (low : k ≤ most_preds) where
   count : length (split 44 l) ≡ k + length (numbers_from l at)
   count =
       sym (length-map (split 44 l) value_of) ∙ ap length inv ∙ length-append (take k preds) (numbers_from l at)
       ∙ ap (λ (m : ℕ). m + length (numbers_from l at)) (length-take-le k preds (omega arith))
 
   module _ (n : ℕ) (inside : at ≤ length l) (given : n ≡ length (first_part 44 (take (length l - at) (drop at l)))) where
-    pub stored_in : k < 8
+    pub stored_in : k < most_preds
     stored_in = let c = count in let e = ap length (numbers_step l at n inside given) in omega arith
 
     pub stored_more : (u : ℕ) → u ≡ value_of (take (at + n - at) (drop at l))
@@ -164,7 +165,7 @@ pub record Scanning (v : ℕ) (l : List ℕ) (at k : ℕ) (least : Option ℕ) (
   pub numbered : are_numbers (split 44 l) ≡ are_numbers (parts_from 44 l at)
   pub rises : rising_below v (map value_of (split 44 l)) ≡ rising_after v least (numbers_from l at)
   pub counts : length (split 44 l) ≡ k + length (parts_from 44 l at)
-  pub kept : length (split 44 l) ≤ 8 → map value_of (split 44 l) ≡ take k first ++ numbers_from l at
+  pub kept : length (split 44 l) ≤ most_preds → map value_of (split 44 l) ≡ take k first ++ numbers_from l at
 
 pub scan_start : (v : ℕ) (l first : List ℕ) → Scanning v l 0 0 (Some 0) first
 scan_start v l first = record {
@@ -195,14 +196,14 @@ module _ (v : ℕ) (l : List ℕ) (at k : ℕ) (least : Option ℕ) (first : Lis
       pub place_falls : length l + 1 - (at + n + 1) < length l + 1 - at
       place_falls = rest_falls 44 l at n inside given
 
-      module _ (size : length first ≡ 8) (new : List ℕ) (put : new ≡ set first k u) where
+      module _ (size : length first ≡ most_preds) (new : List ℕ) (put : new ≡ set first k u) where
         value : u ≡ value_of (take (at + n - at) (drop at l))
         value = ended_value 44 (lent l at) r said u n is_read ∙ ap value_of (lent_part l at n given)
 
         more : length (split 44 l) ≡ k + 1 + length (parts_from 44 l (at + n + 1))
         more = let c = s.counts in let e = ap length (parts_step 44 l at n inside given) in omega arith
 
-        there_stored : length (split 44 l) ≤ 8 → map value_of (split 44 l) ≡ take (k + 1) new ++ numbers_from l (at + n + 1)
+        there_stored : length (split 44 l) ≤ most_preds → map value_of (split 44 l) ≡ take (k + 1) new ++ numbers_from l (at + n + 1)
         there_stored few =
             let m = more in
             rw put (stored_more l at k first (s.kept few) size few (omega arith) n inside given u value)
@@ -227,7 +228,7 @@ module _ (v : ℕ) (l : List ℕ) (at k : ℕ) (least : Option ℕ) (first : Lis
     counted_is : k ≡ length (split 44 l)
     counted_is = let c = s.counts in let e = ap length (parts_none 44 l at past) in omega arith
 
-    module _ (some : is_none l ≡ false) (size : length first ≡ 8) where
+    module _ (some : is_none l ≡ false) (size : length first ≡ most_preds) where
       are : list_of l ≡ map value_of (split 44 l)
       are = rw some
 
@@ -265,7 +266,7 @@ pub ruleset scanning_kit = (scan_start, scan_bad, place_fits, place_next_fits, p
 
 -- ---- `-`
 
-module _ (v : ℕ) (f first : List ℕ) (size : length first ≡ 8) (t : Bool) (given : t ≡ is_none f) where
+module _ (v : ℕ) (f first : List ℕ) (size : length first ≡ most_preds) (t : Bool) (given : t ≡ is_none f) where
   pub none_scanned : t ≡ true → (w : Bool) → w ≡ not (eqb v 0) → Formed v f (record { mislinked = w; links = record { count = 0; first = first } })
   none_scanned e w q =
       let none : is_none f ≡ true = sym given ∙ e in

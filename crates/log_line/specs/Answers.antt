@@ -1,6 +1,6 @@
 -- The refusals' numbers in document 01, and what the answer for a header makes of the line.
-use Rattle.std.specs.Prelude.{ℕ, [], Result, Ok, Err}
-use Rattle.text.specs.Walk.{Judged, refused, passed}
+use Rattle.std.specs.Prelude.{ℕ, [], Result}
+use Rattle.text.specs.Walk.{Judged, answer_says}
 use Rattle.log_line.specs.Header.{Columns}
 use Rattle.log_line.specs.Format.{Known}
 use Rattle.log_line.specs.declared.refusals.Refusal.{Refusal}
@@ -23,5 +23,4 @@ order_of c = record { vertex = c.vertex; board = c.board; labels = c.labels; pre
 
 -- What an answer says of a header.
 abbrev pub header_says : Result ColumnOrder Refusal → Judged Known
-header_says (Ok c) = passed (record { columns = order_of c; steps = [] })
-header_says (Err f) = refused (refusal_number f)
+header_says = answer_says refusal_number (λ c. record { columns = order_of c; steps = [] })

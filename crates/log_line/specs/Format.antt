@@ -1,8 +1,7 @@
 -- The log format as document 01's list has it: from a list of bytes and a label count to the refusal's number and line, or the steps.
 use Rattle.std.specs.Prelude.{ℕ, cond, List, [], ◌∷◌, ◌++◌, eqb, length}
-use Rattle.text.specs.Split.{split}
-use Rattle.text.specs.Lines.{TextLine, whole}
-use Rattle.text.specs.Walk.{Judged, refused, passed, Outcome, accepted, faulty, Format, read_text}
+use Rattle.text.specs.Lines.{TextLine}
+use Rattle.text.specs.Walk.{Judged, refused, passed, Outcome, accepted, faulty, Format, judge_by, read_text}
 use Rattle.layout.specs.Layout.{most_log_text, most_line}
 use Rattle.log_line.specs.Header.{Columns, columns_of, is_header}
 use Rattle.log_line.specs.Step.{Step, step_of, step_at, malformed, misnumbered, mislinked, mislabelled, over_limit}
@@ -29,19 +28,20 @@ judge_step count k line fs =
     cond (malformed k.columns fs) (refused 21)
     (cond (misnumbered k.columns line fs) (refused 23) (judge_values count k (step_at line) (step_of k.columns fs)))
 
--- 21: a line over 240 bytes, without its newline, or with a byte outside 32 to 126. Fields are parted by spaces.
-abbrev pub judge_line : ℕ → Known → ℕ → TextLine → Judged Known
-judge_line count k n l =
-    cond (whole most_line l) (cond (eqb n 1) (judge_header (split 32 l.bytes)) (judge_step count k n (split 32 l.bytes))) (refused 21)
-
--- 20: text empty or over 65,535 bytes.
+-- 20: text empty or over 65,535 bytes. 21: a line over 240 bytes, without its newline, or with a byte outside 32 to 126.
 abbrev pub log_format : ℕ → Format Known
 log_format count = record {
   most = most_log_text;
+  line_most = most_line;
   size_refusal = 20;
+  line_refusal = 21;
   start = record { columns = columns_of []; steps = [] };
-  judge = judge_line count;
+  header = judge_header;
+  below = judge_step count;
 }
+
+abbrev pub judge_line : ℕ → Known → ℕ → TextLine → Judged Known
+judge_line count = judge_by (log_format count)
 
 -- 26: no step at all.
 abbrev pub conclude : Outcome Known → Outcome Known

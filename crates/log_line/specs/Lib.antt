@@ -2,4 +2,4 @@ pub mod Header
 pub mod Step
 pub mod Format
 pub mod Answers
-pub mod Scan
+pub mod inner

@@ -1,10 +1,20 @@
 -- A line below the header: what it says, and one predicate for each refusal of a line, over its fields and what went before it.
-use Rattle.std.specs.Prelude.{ℕ, ◌+◌, ◌-◌, Bool, true, not, cond, ◌&&◌, ◌||◌, List, [], ◌∷◌, eqb, ltb, length, get_or}
+use Rattle.std.specs.Prelude.{ℕ, ◌+◌, ◌-◌, Bool, true, not, cond, ◌&&◌, ◌||◌, List, [], ◌∷◌, eqb, ltb, length, get_or, Option, is_some, unwrap_or}
 use Rattle.sets.specs.Sets.{within}
-use Rattle.numbers.specs.Numbers.{is_number, value_of}
+use Rattle.numbers.specs.Numbers.{decimal, is_number, value_of}
 use Rattle.numbers.specs.Listed.{is_list, list_of}
-use Rattle.layout.specs.Layout.{most_board, most_steps, most_links, most_preds}
+use Rattle.layout.specs.Layout.{most_board, most_steps, most_links, most_preds, most_label_set}
 use Rattle.log_line.specs.Header.{Columns}
+
+-- A field as a label set: a number up to the largest set.
+abbrev pub label_set_in : List ℕ → Option ℕ
+label_set_in f = decimal most_label_set f
+
+abbrev pub is_label_set : List ℕ → Bool
+is_label_set f = is_some (label_set_in f)
+
+abbrev pub label_set_of : List ℕ → ℕ
+label_set_of f = unwrap_or (label_set_in f) 0
 
 -- What a line says of a step: its board, its label set, and the steps that it names as leading to it.
 pub record Step : Type 0 where
@@ -15,7 +25,7 @@ pub record Step : Type 0 where
 abbrev pub step_of : Columns → List (List ℕ) → Step
 step_of c fs = record {
   board = value_of (get_or fs c.board []);
-  labels = value_of (get_or fs c.labels []);
+  labels = label_set_of (get_or fs c.labels []);
   preds = list_of (get_or fs c.preds []);
 }
 
@@ -26,9 +36,9 @@ step_at line = line - 2
 abbrev pub vertex_of : Columns → List (List ℕ) → ℕ
 vertex_of c fs = value_of (get_or fs c.vertex [])
 
--- The fields of vertex, board and labels are numbers.
+-- The fields of vertex and board are numbers, that of labels is a label set.
 abbrev pub are_numbers_at : Columns → List (List ℕ) → Bool
-are_numbers_at c fs = is_number (get_or fs c.vertex []) && (is_number (get_or fs c.board []) && is_number (get_or fs c.labels []))
+are_numbers_at c fs = is_number (get_or fs c.vertex []) && (is_number (get_or fs c.board []) && is_label_set (get_or fs c.labels []))
 
 -- 21, below the header: a wrong number of fields, one of the other three not a number, a board over 255, or `preds` neither `-` nor
 -- numbers joined by single commas.

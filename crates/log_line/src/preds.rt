@@ -1,11 +1,12 @@
-// The field `preds`: `-`, or numbers joined by commas. A line of 240 bytes can list over a hundred.
+// The field `preds`: `-`, or numbers joined by commas. A line can list over a hundred.
 ghost use Rattle.std.specs.Prelude.{◌≡◌, ◌≤◌, false, length, set, take};
 ghost use Rattle.numbers.specs.Listed.{is_none};
-ghost use Rattle.log_line.specs.Scan.{Scanned, next_least};
+ghost use Rattle.layout.specs.Layout.{most_preds};
+ghost use Rattle.log_line.specs.inner.Scan.{Scanned, next_least};
 
 use numbers::read_number;
 
-// The links of a line: how many they are, and the first 8.
+// The links of a line: how many they are, and the first of them.
 #[derive(Clone, Copy)]
 pub struct Links {
     pub count: usize,
@@ -13,9 +14,9 @@ pub struct Links {
 }
 
 impl Links {
-    // All of them, where they are at most 8.
+    // All of them, where there is a place for each.
     pub fn as_slice(&self) -> &[u16]
-        requires { self.now.count ≤ 8 }
+        requires { self.now.count ≤ most_preds }
         ensures { result.now ≡ take self.now.count self.now.first }
     {
         &self.first[..self.count]
@@ -37,7 +38,7 @@ pub fn is_none(field: &[u8]) -> bool
     field == b"-".as_slice()
 }
 
-// Puts the number at its place, if that is one of the 8. By `get_mut` the proof does not close: what stands there afterwards is not found.
+// Puts the number at its place, if there is one for it. By `get_mut` the proof does not close: what stands there afterwards is not found.
 #[tactic(auto, using(crate::proofs::PredLaws::keep_kit))]
 fn keep(first: &mut [u16; layout::MOST_PREDS], k: usize, u: u16)
     ensures { first.new ≡ set first.old k u }
@@ -48,7 +49,7 @@ fn keep(first: &mut [u16; layout::MOST_PREDS], k: usize, u: u16)
 }
 
 // What the number after u must be at least, so that all rise below v; none, once they do not.
-#[tactic(auto, unfolding(crate::specs::Scan::next_least))]
+#[tactic(auto, unfolding(crate::specs::inner::Scan::next_least))]
 fn next_least(least: Option<u16>, u: u16, v: u16) -> Option<u16>
     ensures { result ≡ next_least v least u }
 {

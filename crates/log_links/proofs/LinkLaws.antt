@@ -10,7 +10,7 @@ use lib.Seq.{get_or-take, get_or-drop}
 use Rattle.lists.specs.Places.{at}
 use Rattle.sets.specs.Sets.{members}
 use Rattle.sets.proofs.Agree.{members_empty}
-use Rattle.layout.specs.Layout.{labels_at, link_at}
+use Rattle.layout.specs.Layout.{most_labels, link_at, most_steps}
 use Rattle.log_buffer.specs.Meaning.{steps_in}
 use Rattle.log_buffer.specs.Valid.{is_log}
 use Rattle.log_buffer.proofs.Meaning.{labels_are, link_below}
@@ -31,11 +31,11 @@ laid count log t =
     }
 
 module _ (log : List ℕ) (x from to : ℕ) (laid : Laid log) (h : x < steps_in log) (begins : Begins log x from) (ends : Begins log (x + 1) to) where
-  pub links_small : Inside 1024 (take (link_at to - link_at from) (drop (link_at from) log))
+  pub links_small : Inside most_steps (take (link_at to - link_at from) (drop (link_at from) log))
   links_small = record { below = λ i k. small i k }
     where
       small : (i : ℕ) → i < length (take (link_at to - link_at from) (drop (link_at from) log))
-          → get_or (take (link_at to - link_at from) (drop (link_at from) log)) i 0 < 1024
+          → get_or (take (link_at to - link_at from) (drop (link_at from) log)) i 0 < most_steps
       small i k =
           let k' : i < min (link_at to - link_at from) (length (drop (link_at from) log)) = simp length-take at k in
           let f = laid.few in
@@ -49,7 +49,7 @@ module _ (log : List ℕ) (x from to : ℕ) (laid : Laid log) (h : x < steps_in 
 
 -- ---- a step without labels
 
-pub bare_if : (log : List ℕ) (x labels : ℕ) → labels ≡ at log (labels_at x) → x < steps_in log → BareIf log x (eqb labels 0)
-bare_if log x labels z h = record {
-  labels = λ e. labels_are log x h ∙ ap (members 16) (sym z ∙ eqb-true labels 0 e) ∙ members_empty 16;
+pub bare_if : (log labels : List ℕ) (x set : ℕ) → set ≡ at labels x → x < steps_in log → BareIf log labels x (eqb set 0)
+bare_if log labels x set z h = record {
+  none = λ e. labels_are log labels x h ∙ ap (members most_labels) (sym z ∙ eqb-true set 0 e) ∙ members_empty most_labels;
 }

@@ -25,8 +25,8 @@ pub record Inside (n : ℕ) (list : List ℕ) : Type 0 where
   pub below : (i : ℕ) → i < length list → get_or list i 0 < n
 
 -- If so, the step has no labels.
-pub record BareIf (log : List ℕ) (x : ℕ) (r : Bool) : Type 0 where
-  pub labels : r ≡ true → (log_of log).labels x ≡ []
+pub record BareIf (log labels : List ℕ) (x : ℕ) (r : Bool) : Type 0 where
+  pub none : r ≡ true → (log_of log labels).labels x ≡ []
 
 -- Each listed step has v noted for it, and the others what they had.
 pub record Noted (links : List ℕ) (v : ℕ) (old new : List ℕ) : Type 0 where

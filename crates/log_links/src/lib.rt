@@ -3,24 +3,28 @@
 
 ghost use Rattle.std.specs.Prelude.{◌≡◌, ◌+◌, ◌<◌, ◌≤◌, length};
 ghost use Rattle.lists.specs.Places.{at};
-ghost use Rattle.layout.specs.Layout.{most_steps, labels_at};
+ghost use Rattle.layout.specs.Layout.{most_steps};
 ghost use Rattle.log_buffer.specs.Meaning.{steps_in, links_into};
 ghost use Rattle.log_links.specs.Links.{Laid, Begins, Inside, BareIf, Noted, LastTo};
 
-// A log buffer whose links lie in order and inside it. It holds the numbers and no `LogNumbers`: that is made by a test of the length, as an
-// `Option`, and is not copied; a `Log` is of a buffer that has passed all tests, and each turn of a pass gets a copy.
+// A log buffer whose links lie in order and inside it, and beside it the label sets of its steps. It holds the numbers and no `LogNumbers`: that is
+// made by a test of the length, as an `Option`, and is not copied; a `Log` is of a buffer that has passed all tests, and each turn of a pass gets a
+// copy.
 #[derive(Clone, Copy)]
 pub struct Log<'a> {
     pub numbers: &'a [u16],
+    pub labels: &'a [u16],
     ghost laid: { Laid numbers.now },
+    ghost long: { most_steps ≤ length labels.now },
 }
 
 impl<'a> Log<'a> {
-    pub fn new(numbers: &'a [u16]) -> Log<'a>
-        requires { Laid numbers.now }
-        ensures { result.numbers.now ≡ numbers.now }
+    pub fn new(numbers: &'a [u16], labels: &'a [u16]) -> Log<'a>
+        requires laid { Laid numbers.now }
+        requires long { most_steps ≤ length labels.now }
+        ensures { (result.numbers.now ≡ numbers.now) × (result.labels.now ≡ labels.now) }
     {
-        Log { numbers }
+        Log { numbers, labels }
     }
 
     // How many steps there are.
@@ -33,16 +37,16 @@ impl<'a> Log<'a> {
     // The label set of the step x.
     pub fn labels(self, x: usize) -> u16
         requires { x < steps_in self.numbers.now }
-        ensures { result ≡ at self.entry.numbers.now (labels_at x) }
+        ensures { result ≡ at self.entry.labels.now x }
     {
-        self.numbers[layout::LABEL_SETS + x]
+        self.labels[x]
     }
 
     // Has the step no labels? Entering it then leaves every state as it is.
     #[tactic(auto, using(crate::proofs::LinkLaws::bare_if))]
     pub fn is_bare(self, x: usize) -> bool
         requires { x < steps_in self.numbers.now }
-        ensures { BareIf self.entry.numbers.now x result }
+        ensures { BareIf self.entry.numbers.now self.entry.labels.now x result }
     {
         self.labels(x) == 0
     }

@@ -13,10 +13,11 @@ use Rattle.fields.specs.Fields.{same_bytes}
 use Rattle.numbers.specs.Numbers.{is_number, value_of}
 use Rattle.numbers.specs.Listed.{is_list}
 use Rattle.line_places.proofs.FaultLaws.{no_field}
+use Rattle.layout.specs.Layout.{most_steps, most_links, most_preds, most_board}
 use Rattle.log_line.specs.Header.{vertex_name, board_name, labels_name, preds_name, place_of, Columns, columns_of, is_header}
-use Rattle.log_line.specs.Step.{Step, malformed, link_count, over_limit}
+use Rattle.log_line.specs.Step.{Step, malformed, link_count, over_limit, is_label_set}
 use Rattle.log_places.specs.Place.{wrong_name, header_at, wrong_field, malformed_at, links_named, over_limit_at, limit_at}
-use Rattle.log_places.specs.Names.{is_place}
+use Rattle.log_places.specs.inner.Names.{is_place}
 use Rattle.log_places.proofs.HeaderLaws.{place_names, same_is, name_wrong}
 
 -- ---- the columns of a header are 0 to 3, in some order
@@ -272,8 +273,8 @@ count_refused c fs n = rw (ne_eqb (length fs) 4 n) refl
 
 module _ (c : Columns) (order : Ordered c) (fs : List (List ℕ)) where
   abbrev Right : Type 0
-  Right = Formed (eqb (length fs) 4) (is_number (get_or fs c.vertex [])) (is_number (get_or fs c.board [])) (is_number (get_or fs c.labels []))
-      (ltb 255 (value_of (get_or fs c.board []))) (is_list (get_or fs c.preds []))
+  Right = Formed (eqb (length fs) 4) (is_number (get_or fs c.vertex [])) (is_number (get_or fs c.board [])) (is_label_set (get_or fs c.labels []))
+      (ltb most_board (value_of (get_or fs c.board []))) (is_list (get_or fs c.preds []))
 
   is_number_lem : Right → (i : ℕ) → i < 4 → eqb i c.preds ≡ false → is_number (get_or fs i []) ≡ true
   is_number_lem r i h n = go (eqb i c.vertex) refl (eqb i c.board) refl (eqb i c.labels) refl (order.every i h)
@@ -285,10 +286,10 @@ module _ (c : Columns) (order : Ordered c) (fs : List (List ℕ)) where
       go false d false e true f g = rw (eqb-true i c.labels f) r.labels
       go false d false e false f g = clash (eqb i c.preds) g n
 
-  is_few : Right → (i : ℕ) → (eqb i c.board && ltb 255 (value_of (get_or fs i []))) ≡ false
+  is_few : Right → (i : ℕ) → (eqb i c.board && ltb most_board (value_of (get_or fs i []))) ≡ false
   is_few r i = go (eqb i c.board) refl
     where
-      go : (s : Bool) → eqb i c.board ≡ s → (s && ltb 255 (value_of (get_or fs i []))) ≡ false
+      go : (s : Bool) → eqb i c.board ≡ s → (s && ltb most_board (value_of (get_or fs i []))) ≡ false
       go true e = rw (eqb-true i c.board e) r.few
       go false e = refl
 
@@ -297,7 +298,7 @@ module _ (c : Columns) (order : Ordered c) (fs : List (List ℕ)) where
   field_right r i h = go (eqb i c.preds) refl
     where
       go : (s : Bool) → eqb i c.preds ≡ s
-          → cond s (not (is_list (get_or fs i []))) (not (is_number (get_or fs i [])) || (eqb i c.board && ltb 255 (value_of (get_or fs i [])))) ≡ false
+          → cond s (not (is_list (get_or fs i []))) (not (is_number (get_or fs i [])) || (eqb i c.board && ltb most_board (value_of (get_or fs i [])))) ≡ false
       go true e = rw (eqb-true i c.preds e, r.links) refl
       go false e = rw (is_number_lem r i h e, is_few r i) refl
 
@@ -312,12 +313,12 @@ module _ (c : Columns) (order : Ordered c) (fs : List (List ℕ)) where
           let n = eqb-true (length fs) 4 r.count in
           clash (wrong_field c fs i) w (field_right r i (omega arith))
 
-  right_field : (i : ℕ) → (i ≡ c.preds → ⊥) → wrong_field c fs i ≡ false → (is_number (get_or fs i []) ≡ true) × ((eqb i c.board && ltb 255 (value_of (get_or fs i []))) ≡ false)
+  right_field : (i : ℕ) → (i ≡ c.preds → ⊥) → wrong_field c fs i ≡ false → (is_number (get_or fs i []) ≡ true) × ((eqb i c.board && ltb most_board (value_of (get_or fs i []))) ≡ false)
   unfolding wrong_field
-  right_field i n e = go (is_number (get_or fs i [])) refl (eqb i c.board && ltb 255 (value_of (get_or fs i []))) refl (sym (rw (ne_eqb i c.preds n) refl) ∙ e)
+  right_field i n e = go (is_number (get_or fs i [])) refl (eqb i c.board && ltb most_board (value_of (get_or fs i []))) refl (sym (rw (ne_eqb i c.preds n) refl) ∙ e)
     where
-      go : (s : Bool) → is_number (get_or fs i []) ≡ s → (t : Bool) → (eqb i c.board && ltb 255 (value_of (get_or fs i []))) ≡ t → (not s || t) ≡ false
-          → (is_number (get_or fs i []) ≡ true) × ((eqb i c.board && ltb 255 (value_of (get_or fs i []))) ≡ false)
+      go : (s : Bool) → is_number (get_or fs i []) ≡ s → (t : Bool) → (eqb i c.board && ltb most_board (value_of (get_or fs i []))) ≡ t → (not s || t) ≡ false
+          → (is_number (get_or fs i []) ≡ true) × ((eqb i c.board && ltb most_board (value_of (get_or fs i []))) ≡ false)
       go true p false q e = (p, q)
       go true p true q e = no e
       go false p t q e = no e
@@ -342,7 +343,7 @@ module _ (c : Columns) (order : Ordered c) (fs : List (List ℕ)) where
       let b = right_field c.board order.preds_board (none c.board (omega arith)) in
       let l = right_field c.labels order.preds_labels (none c.labels (omega arith)) in
       let p = right_list (none c.preds (omega arith)) in
-      let few : ltb 255 (value_of (get_or fs c.board [])) ≡ false = sym (rw (eq-eqb c.board c.board refl) refl) ∙ b.1 in
+      let few : ltb most_board (value_of (get_or fs c.board [])) ≡ false = sym (rw (eq-eqb c.board c.board refl) refl) ∙ b.1 in
       clash (malformed c fs) m (rw (eq-eqb (length fs) 4 n, v.0, b.0, l.0, few, p) refl)
 
 -- ---- 26
@@ -352,7 +353,7 @@ module _ (before : List Step) (c : Columns) (v : ℕ) (fs : List (List ℕ)) whe
   pub over_limit_refused : (i : ℕ) → over_limit_at (link_count before) c v fs i ≡ true → over_limit before v (links_named c fs) ≡ true
   unfolding over_limit_at
   over_limit_refused i e =
-      go (eqb i c.vertex) (eqb i c.preds) (ltb 8 (length (links_named c fs))) (not (ltb v 1024)) (ltb 4096 (link_count before + length (links_named c fs))) e
+      go (eqb i c.vertex) (eqb i c.preds) (ltb most_preds (length (links_named c fs))) (not (ltb v most_steps)) (ltb most_links (link_count before + length (links_named c fs))) e
     where
       go : (x y n s a : Bool) → ((x && s) || (y && (n || a))) ≡ true → (n || (s || a)) ≡ true
       go x y true s a e = refl
@@ -372,8 +373,8 @@ module _ (before : List Step) (c : Columns) (v : ℕ) (fs : List (List ℕ)) whe
       let hp = order.preds in
       let x = none c.vertex (omega arith) in
       let y = none c.preds (omega arith) in
-      go (eqb c.preds c.vertex) (eqb c.vertex c.preds) (ltb 8 (length (links_named c fs))) (not (ltb v 1024))
-      (ltb 4096 (link_count before + length (links_named c fs)))
+      go (eqb c.preds c.vertex) (eqb c.vertex c.preds) (ltb most_preds (length (links_named c fs))) (not (ltb v most_steps))
+      (ltb most_links (link_count before + length (links_named c fs)))
       (sym (rw (eq-eqb c.vertex c.vertex refl) refl) ∙ x)
       (sym (rw (eq-eqb c.preds c.preds refl) refl) ∙ y)
       over

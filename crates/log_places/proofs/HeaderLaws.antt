@@ -13,7 +13,7 @@ use Rattle.fields.specs.Fields.{same_bytes}
 use Rattle.fields.proofs.FieldLaws.{same_agrees}
 use Rattle.log_line.specs.Header.{vertex_name, board_name, labels_name, preds_name, place_of, Columns, columns_of}
 use Rattle.log_places.specs.Place.{is_column, wrong_name}
-use Rattle.log_places.specs.Names.{is_place}
+use Rattle.log_places.specs.inner.Names.{is_place}
 
 -- ---- the place of a name
 

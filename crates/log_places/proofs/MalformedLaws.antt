@@ -11,6 +11,7 @@ use Rattle.std.specs.Prelude.{Option, Some, None}
 use Rattle.numbers.specs.Numbers.{number_of}
 use Rattle.numbers.specs.Listed.{is_list}
 use Rattle.line_places.specs.Place.{as_place, place_where}
+use Rattle.layout.specs.Layout.{most_board}
 use Rattle.log_line.specs.Header.{Columns}
 use Rattle.log_places.specs.Place.{wrong_field, malformed_at}
 
@@ -27,7 +28,7 @@ module _ (c : Columns) (fs : List (List ℕ)) (i : ℕ) where
     field_odd e = sym (rw (ne_eqb i c.preds other, sym said ∙ e) refl)
 
     module _ (v : ℕ) (e : o ≡ Some v) where
-      pub field_board : i ≡ c.board → ltb 255 v ≡ wrong_field c fs i
+      pub field_board : i ≡ c.board → ltb most_board v ≡ wrong_field c fs i
       unfolding wrong_field
       field_board h = sym (rw (ne_eqb i c.preds other, sym said ∙ e, eq-eqb i c.board h) refl)
 

@@ -1,2 +1,2 @@
 pub mod Place
-pub mod Names
+pub mod inner

@@ -21,7 +21,7 @@ abbrev pub header_at : List (List ℕ) → ℕ
 header_at fs = place_where (wrong_name fs) fs
 
 -- 21, below the header. The field with index i is wrong: `preds` neither `-` nor numbers joined by single commas, another that is no number, a
--- board over 255.
+-- board over 255. The largest label set is the largest number, so the field `labels` is asked no more.
 unfoldable pub wrong_field : Columns → List (List ℕ) → ℕ → Bool
 wrong_field c fs i =
     cond (eqb i c.preds) (not (is_list (get_or fs i [])))

@@ -4,7 +4,7 @@ ghost use Rattle.text.specs.Split.{split};
 ghost use Rattle.log_line.specs.Answers.{order_of};
 ghost use Rattle.line_places.specs.Place.{as_place};
 ghost use Rattle.log_places.specs.Place.{header_at};
-ghost use Rattle.log_places.specs.Names.{is_place};
+ghost use Rattle.log_places.specs.inner.Names.{is_place};
 
 use fields::Fields;
 use line_places::place_where;

@@ -1,6 +1,6 @@
 -- The byte moves nothing else: number, line and count of an answer, and the room, are what document 01 gave; and every byte is at most 241.
 -- Assumes nothing.
-use Prim.Native.Nat.{ℕ, ◌≤◌}
+use Prim.Native.Nat.{ℕ, ◌+◌, ◌≤◌}
 use mathlib.Core.Path.{◌≡◌, refl}
 use mathlib.Core.Bool.{Bool, true, false, cond}
 use mathlib.Core.Option.{none, some}
@@ -11,7 +11,7 @@ use lib.ListN.{length}
 use Rattle.answer.specs.Answers.{refused_at, without_byte}
 use Rattle.answer.specs.Faults.{first_fault, answer_or, kept_or}
 use Rattle.text.specs.Walk.{Outcome, accepted, faulty}
-use Rattle.layout.specs.Layout.{log_length}
+use Rattle.layout.specs.Layout.{log_length, most_line}
 use Rattle.log_line.specs.Format.{Known, log_text}
 use Rattle.log_walk.specs.Filled.{answer_of, filled_by}
 use Rattle.log_byte.proofs.ByteLaws.{byte_fits}
@@ -33,11 +33,11 @@ module _ (text : List ℕ) (count : ℕ) (buffer : List ℕ) where
   pub after_stays : log_after text count buffer ≡ kept_or (first_fault (host_faults count buffer)) buffer (filled_by (log_text count text) buffer)
   after_stays = refl
 
-  pub byte_small : (log_answer text count buffer).byte ≤ 241
+  pub byte_small : (log_answer text count buffer).byte ≤ most_line + 1
   unfolding first_fault answer_or
   byte_small = go (ltb (length buffer) log_length) (bad_count count) (log_text count text)
     where
-      go : (b c : Bool) (o : Outcome Known) → (answer_or (cond b (some (refused_at 1 0)) (cond c (some (refused_at 5 0)) none)) (text_answer text o)).byte ≤ 241
+      go : (b c : Bool) (o : Outcome Known) → (answer_or (cond b (some (refused_at 1 0)) (cond c (some (refused_at 5 0)) none)) (text_answer text o)).byte ≤ most_line + 1
       go true c o = omega arith
       go false true o = omega arith
       go false false (accepted k) = omega arith

@@ -1,6 +1,6 @@
 -- What a call of the log reader promises, in document 01's words. Either it is refused, by the list's entry that applies, with
--- the byte that this has in the text, and the lent room is as it was. Or no entry applies: the count is the number of steps, the numbers of what the lines say stand in front of the room, and the
--- rest of it is as it was.
+-- the byte that this has in the text, and the lent room is as it was. Or no entry applies: the count is the number of steps, the numbers of what the
+-- lines say stand in front of the room, and the rest of it is as it was.
 use Rattle.std.specs.Prelude.{ℕ, ◌≡◌, List, ◌++◌, length, drop}
 use Rattle.answer.specs.declared.Answer.{Answer}
 use Rattle.answer.specs.Answers.{accepted_with}

@@ -2,7 +2,7 @@
 #![tactic(auto)]
 
 ghost use Rattle.std.specs.Prelude.{◌≡◌, ◌≤◌, length};
-ghost use Rattle.text.specs.Walk.{bad_size};
+ghost use Rattle.layout.specs.Layout.{most_labels, log_length};
 ghost use Rattle.log_line.specs.Format.{log_text};
 ghost use Rattle.log_line.specs.Answers.{refusal_number};
 ghost use Rattle.log_reader.specs.Answer.{refused_with, text_answer, log_answer, log_after};
@@ -14,23 +14,16 @@ use log_line::header::read_header;
 use log_line::refusals::Refusal;
 use log_walk::read_steps;
 use text::faults::{Fault, in_line};
-use text::lines::whole_line;
-
-// The text is empty or too large.
-fn has_bad_size(text: &[u8]) -> bool
-    ensures { result ≡ bad_size 65535 text.now }
-{
-    text.is_empty() || text.len() > layout::MOST_LOG_TEXT
-}
+use text::lines::{has_bad_size, whole_line};
 
 // How many steps the text has: its size, the header, and the lines below it.
 #[tactic(auto, using(crate::proofs::TextLaws::text_kit))]
 fn read_text(text: &[u8], labels: u16, log: &mut [u16]) -> Result<u16, Fault<Refusal>>
-    requires { (labels ≤ 16) × (7170 ≤ length log.old) }
+    requires { (labels ≤ most_labels) × (log_length ≤ length log.old) }
     ensures value { answered result ≡ answer_of (log_text labels text.now) }
     ensures log_after { log.new ≡ filled_by (log_text labels text.now) log.old }
 {
-    if has_bad_size(text) {
+    if has_bad_size(text, layout::MOST_LOG_TEXT) {
         return Err(Fault {
             refusal: Refusal::Size,
             line: 0,
@@ -52,7 +45,7 @@ fn refuse(text: &[u8], fault: Fault<Refusal>) -> Answer
 // The answer to a text.
 #[tactic(auto, using(crate::proofs::TextLaws::placed_kit))]
 fn read_placed(text: &[u8], labels: u16, log: &mut [u16]) -> Answer
-    requires { (labels ≤ 16) × (7170 ≤ length log.old) }
+    requires { (labels ≤ most_labels) × (log_length ≤ length log.old) }
     ensures value { result ≡ text_answer text.now (log_text labels text.now) }
     ensures log_after { log.new ≡ filled_by (log_text labels text.now) log.old }
 {
@@ -72,7 +65,7 @@ pub fn read_log(text: &[u8], labels: u16, log: &mut [u16]) -> Answer
     if log.len() < layout::LOG_LENGTH {
         return answer::refused(1, 0);
     }
-    if !(1..=16).contains(&labels) {
+    if !(1..=layout::MOST_LABELS).contains(&usize::from(labels)) {
         return answer::refused(5, 0);
     }
     read_placed(text, labels, log)

@@ -11,10 +11,11 @@ use lib.ListN.{length, get_or, take}
 use Rattle.std.specs.Prelude.{Option, Some, None, Result, Ok, Err}
 use Rattle.numbers.specs.Numbers.{number_of}
 use Rattle.numbers.specs.Listed.{list_of, is_list}
+use Rattle.layout.specs.Layout.{most_preds, most_steps, most_links, most_board}
 use Rattle.log_line.specs.Header.{Columns}
-use Rattle.log_line.specs.Step.{malformed, mislabelled, link_count, over_limit}
+use Rattle.log_line.specs.Step.{label_set_in, malformed, mislabelled, link_count, over_limit}
 use Rattle.log_line.specs.Format.{Known}
-use Rattle.log_line.specs.Scan.{Formed, Scanned}
+use Rattle.log_line.specs.inner.Scan.{Formed, Scanned}
 use Rattle.log_line.specs.declared.preds.Preds.{Preds}
 use Rattle.log_line.specs.declared.refusals.Refusal.{Refusal}
 use Rattle.log_line.specs.declared.refusals.Refusal.TheVariants.{Malformed, Number, Links, Labels, Limit}
@@ -28,17 +29,17 @@ use Rattle.log_step.specs.Answers.{RowOf, ReadAs, JudgedBy, StepJudged}
 
 -- So many links in the line, step v, and so many links before it.
 abbrev over : ℕ → ℕ → ℕ → Bool
-over n v before = ltb 8 n || (not (ltb v 1024) || ltb 4096 (before + n))
+over n v before = ltb most_preds n || (not (ltb v most_steps) || ltb most_links (before + n))
 
 pub in_limits : (n v before : ℕ) → over n v before ≡ false → InLimits n v before
-in_limits n v before e = go (ltb 8 n) refl (ltb v 1024) refl (ltb 4096 (before + n)) refl e
+in_limits n v before e = go (ltb most_preds n) refl (ltb v most_steps) refl (ltb most_links (before + n)) refl e
   where
-    go : (s : Bool) → ltb 8 n ≡ s → (t : Bool) → ltb v 1024 ≡ t → (u : Bool) → ltb 4096 (before + n) ≡ u → (s || (not t || u)) ≡ false
+    go : (s : Bool) → ltb most_preds n ≡ s → (t : Bool) → ltb v most_steps ≡ t → (u : Bool) → ltb most_links (before + n) ≡ u → (s || (not t || u)) ≡ false
         → InLimits n v before
     go true a t b u d f = let z : ◌≡◌ {A = ℕ} 0 1 = cc in absurd (omega arith)
     go false a false b u d f = let z : ◌≡◌ {A = ℕ} 0 1 = cc in absurd (omega arith)
     go false a true b true d f = let z : ◌≡◌ {A = ℕ} 0 1 = cc in absurd (omega arith)
-    go false a true b false d f = record { few = ltb-false 8 n a; step = ltb-true v 1024 b; all = ltb-false 4096 (before + n) d }
+    go false a true b false d f = record { few = ltb-false most_preds n a; step = ltb-true v most_steps b; all = ltb-false most_links (before + n) d }
 
 -- ---- 21
 
@@ -54,25 +55,25 @@ module _ (c : Columns) (fs : List (List ℕ)) (n : ℕ) (counted : n ≡ length 
       pub row_board : b ≡ None → malformed c fs ≡ true
       row_board p = rw (← counted, four, sym vertex ∙ is_x, sym board ∙ p) refl
 
-      module _ (bv : ℕ) (is_b : b ≡ Some bv) (s : Option ℕ) (labels : s ≡ number_of (get_or fs c.labels [])) where
+      module _ (bv : ℕ) (is_b : b ≡ Some bv) (s : Option ℕ) (labels : s ≡ label_set_in (get_or fs c.labels [])) where
         pub row_labels : s ≡ None → malformed c fs ≡ true
         row_labels p = rw (← counted, four, sym vertex ∙ is_x, sym board ∙ is_b, sym labels ∙ p) refl
 
         module _ (sv : ℕ) (is_s : s ≡ Some sv) where
-          numbers_in : malformed c fs ≡ (ltb 255 bv || not (is_list (get_or fs c.preds [])))
+          numbers_in : malformed c fs ≡ (ltb most_board bv || not (is_list (get_or fs c.preds [])))
           numbers_in = rw (← counted, four, sym vertex ∙ is_x, sym board ∙ is_b, sym labels ∙ is_s) refl
 
-          pub row_high : 255 < bv → malformed c fs ≡ true
-          row_high h = numbers_in ∙ rw (lt-ltb 255 bv h) refl
+          pub row_high : most_board < bv → malformed c fs ≡ true
+          row_high h = numbers_in ∙ rw (lt-ltb most_board bv h) refl
 
-          module _ (low : bv ≤ 255) (v : ℕ) (f : List ℕ) (field : f ≡ get_or fs c.preds []) where
+          module _ (low : bv ≤ most_board) (v : ℕ) (f : List ℕ) (field : f ≡ get_or fs c.preds []) where
             pub row_preds : (o : Option Preds) → Scanned v f o → o ≡ None → malformed c fs ≡ true
-            row_preds None e p = numbers_in ∙ rw (le-ltb 255 bv low, ← field, e) refl
+            row_preds None e p = numbers_in ∙ rw (le-ltb most_board bv low, ← field, e) refl
             row_preds (Some r) e p = let z : ◌≡◌ {A = ℕ} 0 1 = cc in absurd (omega arith)
 
             formed : (r : Preds) → Formed v f r → RowOf v c fs (record { vertex = xv; board = bv; labels = sv; preds = r })
             formed r e = record {
-              well = numbers_in ∙ rw (le-ltb 255 bv low, ← field, e.formed) refl;
+              well = numbers_in ∙ rw (le-ltb most_board bv low, ← field, e.formed) refl;
               vertex = sym (rw (sym vertex ∙ is_x) refl);
               board = sym (rw (sym board ∙ is_b) refl);
               labels = sym (rw (sym labels ∙ is_s) refl);

@@ -1,14 +1,14 @@
 -- The answer for a line below the header, and what it makes of the line.
 use Rattle.std.specs.Prelude.{ℕ, ◌+◌, ◌≡◌, true, false, List, [], ◌∷◌, ◌++◌, length, get_or, take, Option, Some, None, Result, Ok, Err}
-use Rattle.text.specs.Walk.{Judged, refused, passed}
+use Rattle.text.specs.Walk.{Judged, answer_says}
 use Rattle.numbers.specs.Numbers.{value_of}
 use Rattle.numbers.specs.Listed.{list_of}
 use Rattle.layout.specs.Layout.{most_preds}
 use Rattle.log_line.specs.Header.{Columns}
-use Rattle.log_line.specs.Step.{Step, vertex_of, malformed, link_count}
+use Rattle.log_line.specs.Step.{Step, label_set_of, vertex_of, malformed, link_count}
 use Rattle.log_line.specs.Format.{Known, judge_step, judge_values}
 use Rattle.log_line.specs.Answers.{refusal_number}
-use Rattle.log_line.specs.Scan.{Formed}
+use Rattle.log_line.specs.inner.Scan.{Formed}
 use Rattle.log_line.specs.declared.refusals.Refusal.{Refusal}
 use Rattle.log_step.specs.Limits.{InLimits}
 use Rattle.log_line.specs.declared.preds.Links.{Links}
@@ -21,10 +21,9 @@ step_with w = record { board = w.0.board; labels = w.0.labels; preds = take w.1.
 
 -- What an answer says of a line after which one step more is known.
 abbrev pub line_says : Known → Result (StepValues × Links) Refusal → Judged Known
-line_says k (Ok w) = passed (record { columns = k.columns; steps = k.steps ++ (step_with w ∷ []) })
-line_says k (Err f) = refused (refusal_number f)
+line_says k = answer_says refusal_number (λ w. record { columns = k.columns; steps = k.steps ++ (step_with w ∷ []) })
 
--- The values of an answer keep the limits, and there are 8 places for their links.
+-- The values of an answer keep the limits, and there is a place for each of their links.
 abbrev pub Limited : ℕ → ℕ → Result (StepValues × Links) Refusal → Type 0
 Limited v before (Ok w) = (length w.1.first ≡ most_preds) × InLimits w.1.count v before
 Limited v before (Err f) = Unit {0}
@@ -45,7 +44,7 @@ pub record RowOf (v : ℕ) (c : Columns) (fs : List (List ℕ)) (row : Row) : Ty
   pub well : malformed c fs ≡ false
   pub vertex : row.vertex ≡ vertex_of c fs
   pub board : row.board ≡ value_of (get_or fs c.board [])
-  pub labels : row.labels ≡ value_of (get_or fs c.labels [])
+  pub labels : row.labels ≡ label_set_of (get_or fs c.labels [])
   pub preds : Formed v (get_or fs c.preds []) row.preds
 
 abbrev pub ReadAs : ℕ → Columns → List (List ℕ) → Option Row → Type 0

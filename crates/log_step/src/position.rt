@@ -1,5 +1,6 @@
 // Where a line below the header stands, and what is tested of it by that.
 ghost use Rattle.std.specs.Prelude.{◌≡◌, not, ◌||◌, ◌+◌, ◌≤◌, ltb};
+ghost use Rattle.layout.specs.Layout.{most_labels, most_preds, most_steps, most_links};
 ghost use Rattle.log_line.specs.Step.{mislabelled};
 ghost use Rattle.log_step.specs.Limits.{InLimits};
 
@@ -11,13 +12,13 @@ pub struct Position {
     pub labels: u16,
     pub step: u16,
     pub links: u16,
-    ghost few: { labels ≤ 16 },
+    ghost few: { labels ≤ most_labels },
 }
 
 impl Position {
     // At the first step.
     pub fn start(labels: u16) -> Self
-        requires { labels ≤ 16 }
+        requires { labels ≤ most_labels }
         ensures { (result.labels ≡ labels) × (result.step ≡ 0) × (result.links ≡ 0) }
     {
         Position {
@@ -52,7 +53,7 @@ impl Position {
 
     // A ninth link in the line, a step over 1,023, or the 4,097th link.
     pub fn is_over(&self, links: usize) -> bool
-        ensures { result ≡ (ltb 8 links || (not (ltb self.now.step 1024) || ltb 4096 (self.now.links + links))) }
+        ensures { result ≡ (ltb most_preds links || (not (ltb self.now.step most_steps) || ltb most_links (self.now.links + links))) }
     {
         is_late(usize::from(self.step)) || has_too_many(links, usize::from(self.links))
     }

@@ -12,12 +12,13 @@ use Rattle.text.proofs.WalkLaws.{walk_nil, walk_cons}
 use Rattle.text.specs.Split.{split}
 use Rattle.text.specs.Lines.{TextLine, lines_of, whole}
 use Rattle.text.specs.Walk.{Judged, refused, passed, Outcome, accepted, faulty, proceed, walk, bad_size}
+use Rattle.layout.specs.Layout.{most_board, most_line, most_log_text, most_steps, most_links}
 use Rattle.log_line.specs.Header.{columns_of, is_header}
 use Rattle.log_line.specs.Step.{Step, step_of, step_at, are_numbers_at, malformed, misnumbered, mislinked, mislabelled, link_count, over_limit}
 use Rattle.log_line.specs.Format.{Known, judge_header, judge_step, judge_line, conclude, log_text}
 use Rattle.log_step.specs.Limits.{InLimits}
 use Rattle.log_step.proofs.StepLaws.{in_limits}
-use Rattle.log_store.specs.Accepted.{StepFits, StepsFit, none, more}
+use Rattle.log_store.specs.inner.Accepted.{StepFits, StepsFit, none, more}
 use Rattle.log_store.proofs.BufferLaws.{count_end, count_more}
 
 -- ---- one line
@@ -45,7 +46,7 @@ module _ (count : ℕ) (k t : Known) (n : ℕ) (l : TextLine) (line : n ≡ leng
   x = step_of k.columns (split 32 l.bytes)
 
   values_passed : (a : Bool) → mislinked (step_at n) x.preds ≡ a → (b : Bool) → mislabelled count (step_at n) x.labels ≡ b
-      → (d : Bool) → over_limit k.steps (step_at n) x.preds ≡ d → x.board ≤ 255
+      → (d : Bool) → over_limit k.steps (step_at n) x.preds ≡ d → x.board ≤ most_board
       → cond a (refused 24) (cond b (refused 25) (cond d (refused 26) (passed (record { columns = k.columns; steps = k.steps ++ (x ∷ []) })))) ≡ passed t → Grown count k t
   unfolding x
   values_passed true p b q d r h e = let z : ◌≡◌ {A = ℕ} 0 1 = cc in absurd (omega arith)
@@ -69,15 +70,15 @@ module _ (count : ℕ) (k t : Known) (n : ℕ) (l : TextLine) (line : n ≡ leng
       absurd (omega arith)
   step_passed false p false q e =
       let c = or_third (not (eqb (length (split 32 l.bytes)) 4)) (not (are_numbers_at k.columns (split 32 l.bytes)))
-      (ltb 255 x.board) _ p in
+      (ltb most_board x.board) _ p in
       values_passed (mislinked (step_at n) x.preds) refl (mislabelled count (step_at n) x.labels) refl
       (over_limit k.steps (step_at n) x.preds) refl
-      (ltb-false 255 x.board c) (sym (rw (p, q)) ∙ e)
+      (ltb-false most_board x.board c) (sym (rw (p, q)) ∙ e)
 
   line_passed : judge_line count k n l ≡ passed t → Grown count k t
-  line_passed e = go (whole 240 l) refl e
+  line_passed e = go (whole most_line l) refl e
     where
-      go : (a : Bool) → whole 240 l ≡ a
+      go : (a : Bool) → whole most_line l ≡ a
           → cond a (cond (eqb n 1) (judge_header (split 32 l.bytes)) (judge_step count k n (split 32 l.bytes))) (refused 21) ≡ passed t
           → Grown count k t
       go false p f = let z : ◌≡◌ {A = ℕ} 0 1 = cc in absurd (omega arith)
@@ -106,7 +107,7 @@ below_fits count (l ∷ ls) k out n line f e =
         rest t (omega arith) (subst (λ (xs : List Step). StepsFit count xs) (sym g.steps) (more f g.fits)) q
 
 header_none : (count : ℕ) (k t : Known) (l : TextLine) → judge_line count k 1 l ≡ passed t → t.steps ≡ []
-header_none count k t l e = go (whole 240 l) (is_header (split 32 l.bytes)) e
+header_none count k t l e = go (whole most_line l) (is_header (split 32 l.bytes)) e
   where
     go : (a b : Bool) → cond a (cond b (passed (record { columns = columns_of (split 32 l.bytes); steps = [] })) (refused 22))
         (refused 21) ≡ passed t → t.steps ≡ []
@@ -134,7 +135,7 @@ all_fit count (l ∷ ls) k out s e = go (judge_line count k 1 l) refl (sym (walk
 
 pub accepted_fit : (count : ℕ) (text : List ℕ) (out : Known) → log_text count text ≡ accepted out → StepsFit count out.steps
     × (length out.steps ≡ 0 → ⊥)
-accepted_fit count text out e = go (bad_size 65535 text) refl e
+accepted_fit count text out e = go (bad_size most_log_text text) refl e
   where
     last : (r : Outcome Known) → walk (judge_line count) (record { columns = columns_of []; steps = [] }) 1 (lines_of text) ≡ r
         → conclude r ≡ accepted out
@@ -151,7 +152,7 @@ accepted_fit count text out e = go (bad_size 65535 text) refl e
               λ z. eqb-false (length k.steps) 0 r (ap (λ (m : Known). length m.steps) y ∙ z),
             )
 
-    go : (a : Bool) → bad_size 65535 text ≡ a
+    go : (a : Bool) → bad_size most_log_text text ≡ a
         → conclude (cond a (faulty 20 0) (walk (judge_line count) (record { columns = columns_of []; steps = [] }) 1 (lines_of text))) ≡ accepted out
         → StepsFit count out.steps × (length out.steps ≡ 0 → ⊥)
     go true p f = let z : ◌≡◌ {A = ℕ} 0 1 = cc in absurd (omega arith)
@@ -162,10 +163,10 @@ accepted_fit count text out e = go (bad_size 65535 text) refl e
 fit_limits : (count : ℕ) (before : List Step) (x : Step) → StepFits count before x → InLimits (length x.preds) (length before) (link_count before)
 fit_limits count before x f = in_limits (length x.preds) (length before) (link_count before) f.limits
 
-pub few_steps : {count : ℕ} {xs : List Step} → StepsFit count xs → length xs ≤ 1024
+pub few_steps : {count : ℕ} {xs : List Step} → StepsFit count xs → length xs ≤ most_steps
 few_steps none = omega arith
 few_steps {count} (more {xs} {x} f s) = let h = (fit_limits count xs x s).step in let e = length-append xs (x ∷ []) in omega arith
 
-pub few_links : {count : ℕ} {xs : List Step} → StepsFit count xs → link_count xs ≤ 4096
+pub few_links : {count : ℕ} {xs : List Step} → StepsFit count xs → link_count xs ≤ most_links
 few_links none = let e = count_end in omega arith
 few_links {count} (more {xs} {x} f s) = let h = (fit_limits count xs x s).all in let e = count_more xs x in omega arith

@@ -7,19 +7,20 @@ use native.Mathlib.Omega.{arith}
 use lib.ListN.{length, length-drop, take, drop, set, replicate, length-append, length-set, length-map}
 use lib.ListN.{length-replicate}
 use lib.Seq.{drop-append-add, set_at, take_at, length-take-le}
+use Rattle.layout.specs.Layout.{most_steps, most_links, most_preds, labels_at, board_at, begin_at, link_at, log_length}
 use Rattle.log_line.specs.Step.{Step, link_count}
 use Rattle.log_step.specs.Limits.{InLimits}
 use Rattle.log_store.specs.Buffer.{padded, begins, links, buffer_of}
-use Rattle.log_store.specs.Stores.{values_stored, links_stored, StepStored}
+use Rattle.log_store.specs.inner.Stores.{values_stored, links_stored, StepStored}
 use Rattle.log_line.specs.declared.preds.Links.{Links}
 use Rattle.log_step.specs.declared.StepValues.{StepValues}
 
 -- ---- the places of a step
 
 pub values_are : (b : List ℕ) (v s board end : ℕ)
-    → set (set (set (set b 0 (v + 1)) (1 + v) s) (1025 + v) board) (2049 + v + 1) end ≡ values_stored b v s board end
+    → set (set (set (set b 0 (v + 1)) (labels_at v) s) (board_at v) board) (begin_at v + 1) end ≡ values_stored b v s board end
 unfolding values_stored
-values_are b v s board end = let e : 2049 + v + 1 ≡ 2049 + (v + 1) = omega arith in rw e
+values_are b v s board end = let e : begin_at v + 1 ≡ begin_at (v + 1) = omega arith in rw e
 
 pub ruleset values_kit = (values_are)
 
@@ -27,13 +28,13 @@ length_values : (b : List ℕ) (v s board end : ℕ) → length (values_stored b
 unfolding values_stored
 length_values b v s board end = simp length-set
 
-length_stored : (b us : List ℕ) (before : ℕ) → length b ≡ 7170 → before + length us ≤ 4096 → length (links_stored b before us) ≡ 7170
+length_stored : (b us : List ℕ) (before : ℕ) → length b ≡ log_length → before + length us ≤ most_links → length (links_stored b before us) ≡ log_length
 unfolding links_stored
 length_stored b us before size few =
-    let t = length-take-le (3074 + before) b (omega arith) in
-    let d = length-drop (3074 + before + length us) b in
-    let e = length-append us (drop (3074 + before + length us) b) in
-    length-append (take (3074 + before) b) (us ++ drop (3074 + before + length us) b) ∙ omega arith
+    let t = length-take-le (link_at before) b (omega arith) in
+    let d = length-drop (link_at before + length us) b in
+    let e = length-append us (drop (link_at before + length us) b) in
+    length-append (take (link_at before) b) (us ++ drop (link_at before + length us) b) ∙ omega arith
 
 -- ---- the blocks
 
@@ -72,7 +73,7 @@ set_block p l r m i x h e =
 
 -- The buffer of a step count, label sets, boards, beginnings and links.
 pub blocks : ℕ → List ℕ → List ℕ → List ℕ → List ℕ → List ℕ
-blocks n ls bs gs us = (n ∷ []) ++ (padded 1024 ls ++ (padded 1024 bs ++ (padded 1025 gs ++ padded 4096 us)))
+blocks n ls bs gs us = (n ∷ []) ++ (padded most_steps ls ++ (padded most_steps bs ++ (padded (most_steps + 1) gs ++ padded most_links us)))
 
 pub buffer_blocks : (xs : List Step)
     → buffer_of xs ≡ blocks (length xs) (map (λ (x : Step). x.labels) xs) (map (λ (x : Step). x.board) xs) (begins 0 xs) (links xs)
@@ -85,69 +86,69 @@ set_count n m ls bs gs us = refl
 
 -- What stands before the boards, the beginnings and the links.
 abbrev pub to_boards : ℕ → List ℕ → List ℕ
-to_boards n ls = (n ∷ []) ++ padded 1024 ls
+to_boards n ls = (n ∷ []) ++ padded most_steps ls
 
 abbrev pub to_begins : ℕ → List ℕ → List ℕ → List ℕ
-to_begins n ls bs = to_boards n ls ++ padded 1024 bs
+to_begins n ls bs = to_boards n ls ++ padded most_steps bs
 
 abbrev pub to_links : ℕ → List ℕ → List ℕ → List ℕ → List ℕ
-to_links n ls bs gs = to_begins n ls bs ++ padded 1025 gs
+to_links n ls bs gs = to_begins n ls bs ++ padded (most_steps + 1) gs
 
 module _ (n : ℕ) (ls bs gs us : List ℕ) where
-  pub from_labels : blocks n ls bs gs us ≡ (n ∷ []) ++ (padded 1024 ls ++ (padded 1024 bs ++ (padded 1025 gs ++ padded 4096 us)))
+  pub from_labels : blocks n ls bs gs us ≡ (n ∷ []) ++ (padded most_steps ls ++ (padded most_steps bs ++ (padded (most_steps + 1) gs ++ padded most_links us)))
   unfolding blocks
   from_labels = refl
 
-  pub from_boards : blocks n ls bs gs us ≡ to_boards n ls ++ (padded 1024 bs ++ (padded 1025 gs ++ padded 4096 us))
+  pub from_boards : blocks n ls bs gs us ≡ to_boards n ls ++ (padded most_steps bs ++ (padded (most_steps + 1) gs ++ padded most_links us))
   unfolding blocks
   from_boards = refl
 
-  pub from_begins : blocks n ls bs gs us ≡ to_begins n ls bs ++ (padded 1025 gs ++ padded 4096 us)
-  from_begins = from_boards ∙ sym (append_assoc (to_boards n ls) (padded 1024 bs) (padded 1025 gs ++ padded 4096 us))
+  pub from_begins : blocks n ls bs gs us ≡ to_begins n ls bs ++ (padded (most_steps + 1) gs ++ padded most_links us)
+  from_begins = from_boards ∙ sym (append_assoc (to_boards n ls) (padded most_steps bs) (padded (most_steps + 1) gs ++ padded most_links us))
 
-  pub from_links : blocks n ls bs gs us ≡ to_links n ls bs gs ++ padded 4096 us
-  from_links = from_begins ∙ sym (append_assoc (to_begins n ls bs) (padded 1025 gs) (padded 4096 us))
+  pub from_links : blocks n ls bs gs us ≡ to_links n ls bs gs ++ padded most_links us
+  from_links = from_begins ∙ sym (append_assoc (to_begins n ls bs) (padded (most_steps + 1) gs) (padded most_links us))
 
-module _ (n : ℕ) (ls : List ℕ) (fit : length ls ≤ 1024) where
-  pub boards_from : length (to_boards n ls) ≡ 1025
-  boards_from = let e = length_padded 1024 ls fit in omega arith
+module _ (n : ℕ) (ls : List ℕ) (fit : length ls ≤ most_steps) where
+  pub boards_from : length (to_boards n ls) ≡ board_at 0
+  boards_from = let e = length_padded most_steps ls fit in omega arith
 
-  module _ (bs : List ℕ) (fit_b : length bs ≤ 1024) where
-    pub begins_from : length (to_begins n ls bs) ≡ 2049
-    begins_from = length-append (to_boards n ls) (padded 1024 bs) ∙ (let a = boards_from in let e = length_padded 1024 bs fit_b in omega arith)
+  module _ (bs : List ℕ) (fit_b : length bs ≤ most_steps) where
+    pub begins_from : length (to_begins n ls bs) ≡ begin_at 0
+    begins_from = length-append (to_boards n ls) (padded most_steps bs) ∙ (let a = boards_from in let e = length_padded most_steps bs fit_b in omega arith)
 
-    pub links_from : (gs : List ℕ) → length gs ≤ 1025 → length (to_links n ls bs gs) ≡ 3074
-    links_from gs h = length-append (to_begins n ls bs) (padded 1025 gs) ∙ (let a = begins_from in let e = length_padded 1025 gs h in omega arith)
+    pub links_from : (gs : List ℕ) → length gs ≤ most_steps + 1 → length (to_links n ls bs gs) ≡ link_at 0
+    links_from gs h = length-append (to_begins n ls bs) (padded (most_steps + 1) gs) ∙ (let a = begins_from in let e = length_padded (most_steps + 1) gs h in omega arith)
 
 module _ (n : ℕ) (ls bs gs us : List ℕ) (i x : ℕ) where
-  set_labels : length ls < 1024 → 1 + length ls ≡ i → set (blocks n ls bs gs us) i x ≡ blocks n (ls ++ (x ∷ [])) bs gs us
+  set_labels : length ls < most_steps → labels_at (length ls) ≡ i → set (blocks n ls bs gs us) i x ≡ blocks n (ls ++ (x ∷ [])) bs gs us
   set_labels h e =
       ap (λ (k : List ℕ). set k i x) (from_labels n ls bs gs us)
-      ∙ set_block (n ∷ []) ls (padded 1024 bs ++ (padded 1025 gs ++ padded 4096 us)) 1024 i x h e
+      ∙ set_block (n ∷ []) ls (padded most_steps bs ++ (padded (most_steps + 1) gs ++ padded most_links us)) most_steps i x h e
       ∙ sym (from_labels n (ls ++ (x ∷ [])) bs gs us)
 
-  set_board : length ls ≤ 1024 → length bs < 1024 → 1025 + length bs ≡ i → set (blocks n ls bs gs us) i x ≡ blocks n ls (bs ++ (x ∷ [])) gs us
+  set_board : length ls ≤ most_steps → length bs < most_steps → board_at (length bs) ≡ i → set (blocks n ls bs gs us) i x ≡ blocks n ls (bs ++ (x ∷ [])) gs us
   set_board f h e =
       ap (λ (k : List ℕ). set k i x) (from_boards n ls bs gs us)
-      ∙ set_block (to_boards n ls) bs (padded 1025 gs ++ padded 4096 us) 1024 i x h (let a = boards_from n ls f in omega arith)
+      ∙ set_block (to_boards n ls) bs (padded (most_steps + 1) gs ++ padded most_links us) most_steps i x h (let a = boards_from n ls f in omega arith)
       ∙ sym (from_boards n ls (bs ++ (x ∷ [])) gs us)
 
-  set_begin : length ls ≤ 1024 → length bs ≤ 1024 → length gs < 1025 → 2049 + length gs ≡ i
+  set_begin : length ls ≤ most_steps → length bs ≤ most_steps → length gs < most_steps + 1 → begin_at (length gs) ≡ i
       → set (blocks n ls bs gs us) i x ≡ blocks n ls bs (gs ++ (x ∷ [])) us
   set_begin f g h e =
       ap (λ (k : List ℕ). set k i x) (from_begins n ls bs gs us)
-      ∙ set_block (to_begins n ls bs) gs (padded 4096 us) 1025 i x h (let a = begins_from n ls f bs g in omega arith)
+      ∙ set_block (to_begins n ls bs) gs (padded most_links us) (most_steps + 1) i x h (let a = begins_from n ls f bs g in omega arith)
       ∙ sym (from_begins n ls bs (gs ++ (x ∷ [])) us)
 
-put_links : (n : ℕ) (ls bs gs us ws : List ℕ) (before : ℕ) → length ls ≤ 1024 → length bs ≤ 1024 → length gs ≤ 1025 → length us ≡ before
-    → before + length ws ≤ 4096
+put_links : (n : ℕ) (ls bs gs us ws : List ℕ) (before : ℕ) → length ls ≤ most_steps → length bs ≤ most_steps → length gs ≤ most_steps + 1 → length us ≡ before
+    → before + length ws ≤ most_links
     → links_stored (blocks n ls bs gs us) before ws ≡ blocks n ls bs gs (us ++ ws)
 unfolding links_stored
 put_links n ls bs gs us ws before f g h e k =
-    ap (λ (s : List ℕ). take (3074 + before) s ++ (ws ++ drop (3074 + before + length ws) s)) whole
-    ∙ ap₂ (λ (a b : List ℕ). a ++ (ws ++ b)) (take_at front zeros (3074 + before) long) behind
-    ∙ append_assoc (to_links n ls bs gs) us (ws ++ replicate (4096 - before - length ws) 0)
-    ∙ ap (λ (s : List ℕ). to_links n ls bs gs ++ s) (sym (append_assoc us ws (replicate (4096 - before - length ws) 0)))
+    ap (λ (s : List ℕ). take (link_at before) s ++ (ws ++ drop (link_at before + length ws) s)) whole
+    ∙ ap₂ (λ (a b : List ℕ). a ++ (ws ++ b)) (take_at front zeros (link_at before) long) behind
+    ∙ append_assoc (to_links n ls bs gs) us (ws ++ replicate (most_links - before - length ws) 0)
+    ∙ ap (λ (s : List ℕ). to_links n ls bs gs ++ s) (sym (append_assoc us ws (replicate (most_links - before - length ws) 0)))
     ∙ ap (λ (m : ℕ). to_links n ls bs gs ++ ((us ++ ws) ++ replicate m 0)) rest
     ∙ sym (from_links n ls bs gs (us ++ ws))
   where
@@ -155,22 +156,22 @@ put_links n ls bs gs us ws before f g h e k =
     front = to_links n ls bs gs ++ us
 
     zeros : List ℕ
-    zeros = replicate (4096 - before) 0
+    zeros = replicate (most_links - before) 0
 
     whole : blocks n ls bs gs us ≡ front ++ zeros
     whole =
-        from_links n ls bs gs us ∙ sym (append_assoc (to_links n ls bs gs) us (replicate (4096 - length us) 0))
-        ∙ ap (λ (m : ℕ). front ++ replicate (4096 - m) 0) e
+        from_links n ls bs gs us ∙ sym (append_assoc (to_links n ls bs gs) us (replicate (most_links - length us) 0))
+        ∙ ap (λ (m : ℕ). front ++ replicate (most_links - m) 0) e
 
-    long : length front ≡ 3074 + before
+    long : length front ≡ link_at before
     long = length-append (to_links n ls bs gs) us ∙ (let a = links_from n ls f bs g gs h in omega arith)
 
-    behind : drop (3074 + before + length ws) (front ++ zeros) ≡ replicate (4096 - before - length ws) 0
+    behind : drop (link_at before + length ws) (front ++ zeros) ≡ replicate (most_links - before - length ws) 0
     behind =
         ap (λ (m : ℕ). drop (m + length ws) (front ++ zeros)) (sym long)
-        ∙ drop-append-add front zeros (length ws) ∙ drop_zeros (length ws) (4096 - before)
+        ∙ drop-append-add front zeros (length ws) ∙ drop_zeros (length ws) (most_links - before)
 
-    rest : 4096 - before - length ws ≡ 4096 - length (us ++ ws)
+    rest : most_links - before - length ws ≡ most_links - length (us ++ ws)
     rest = let a = length-append us ws in omega arith
 
 -- ---- one step more
@@ -254,16 +255,16 @@ module _ (xs : List Step) (x : Step) (v before : ℕ) (counted : length xs ≡ v
       let lb = length-append (boards xs) (x.board ∷ []) in
       let lg = length-append (begins 0 xs) ((before + length x.preds) ∷ []) in
       let e : before + length x.preds ≡ 0 + link_count xs + length x.preds = omega arith in
-      ap (λ (k : List ℕ). links_stored (set (set (set (set k 0 (v + 1)) (1 + v) x.labels) (1025 + v) x.board) (2049 + (v + 1)) (before + length x.preds)) before x.preds)
+      ap (λ (k : List ℕ). links_stored (set (set (set (set k 0 (v + 1)) (labels_at v) x.labels) (board_at v) x.board) (begin_at (v + 1)) (before + length x.preds)) before x.preds)
       (buffer_blocks xs)
-      ∙ ap (λ (k : List ℕ). links_stored (set (set (set k (1 + v) x.labels) (1025 + v) x.board) (2049 + (v + 1)) (before + length x.preds)) before x.preds)
+      ∙ ap (λ (k : List ℕ). links_stored (set (set (set k (labels_at v) x.labels) (board_at v) x.board) (begin_at (v + 1)) (before + length x.preds)) before x.preds)
       (set_count (length xs) (v + 1) (sets xs) (boards xs) (begins 0 xs) (links xs))
-      ∙ ap (λ (k : List ℕ). links_stored (set (set k (1025 + v) x.board) (2049 + (v + 1)) (before + length x.preds)) before x.preds)
-      (set_labels (v + 1) (sets xs) (boards xs) (begins 0 xs) (links xs) (1 + v) x.labels (omega arith) (omega arith))
-      ∙ ap (λ (k : List ℕ). links_stored (set k (2049 + (v + 1)) (before + length x.preds)) before x.preds)
-      (set_board (v + 1) (sets xs ++ (x.labels ∷ [])) (boards xs) (begins 0 xs) (links xs) (1025 + v) x.board (omega arith) (omega arith) (omega arith))
+      ∙ ap (λ (k : List ℕ). links_stored (set (set k (board_at v) x.board) (begin_at (v + 1)) (before + length x.preds)) before x.preds)
+      (set_labels (v + 1) (sets xs) (boards xs) (begins 0 xs) (links xs) (labels_at v) x.labels (omega arith) (omega arith))
+      ∙ ap (λ (k : List ℕ). links_stored (set k (begin_at (v + 1)) (before + length x.preds)) before x.preds)
+      (set_board (v + 1) (sets xs ++ (x.labels ∷ [])) (boards xs) (begins 0 xs) (links xs) (board_at v) x.board (omega arith) (omega arith) (omega arith))
       ∙ ap (λ (k : List ℕ). links_stored k before x.preds)
-      (set_begin (v + 1) (sets xs ++ (x.labels ∷ [])) (boards xs ++ (x.board ∷ [])) (begins 0 xs) (links xs) (2049 + (v + 1)) (before + length x.preds)
+      (set_begin (v + 1) (sets xs ++ (x.labels ∷ [])) (boards xs ++ (x.board ∷ [])) (begins 0 xs) (links xs) (begin_at (v + 1)) (before + length x.preds)
       (omega arith) (omega arith) (omega arith) (omega arith))
       ∙ put_links (v + 1) (sets xs ++ (x.labels ∷ [])) (boards xs ++ (x.board ∷ [])) (begins 0 xs ++ ((before + length x.preds) ∷ []))
       (links xs) x.preds before
@@ -272,12 +273,12 @@ module _ (xs : List Step) (x : Step) (v before : ℕ) (counted : length xs ≡ v
       (sym (buffer_blocks (xs ++ (x ∷ []))))
 
 -- As the code has it: the links are the first of eight places.
-module _ (old : List ℕ) (v before : ℕ) (w : StepValues) (n : Links) (size : length old ≡ 7170) (eight : length n.first ≡ 8)
+module _ (old : List ℕ) (v before : ℕ) (w : StepValues) (n : Links) (size : length old ≡ log_length) (eight : length n.first ≡ most_preds)
     (ok : InLimits n.count v before) where
   pub links_taken : n.count ≡ length (take n.count n.first)
   links_taken = sym (length-take-le n.count n.first (let h = ok.few in omega arith))
 
-  pub links_fit : before + length (take n.count n.first) ≤ 4096
+  pub links_fit : before + length (take n.count n.first) ≤ most_links
   links_fit = let h = ok.all in let e = links_taken in omega arith
 
   pub step_stored : (mid new : List ℕ) → mid ≡ values_stored old v w.labels w.board (before + n.count)

@@ -7,17 +7,18 @@ use native.Mathlib.Omega.{arith}
 use lib.ListN.{length, take}
 use lib.Seq.{length-take-le}
 use Rattle.std.specs.Prelude.{Result, Ok, Err}
+use Rattle.layout.specs.Layout.{most_preds, log_length}
 use Rattle.log_line.specs.Header.{Columns}
 use Rattle.log_line.specs.declared.refusals.Refusal.{Refusal}
 use Rattle.log_step.specs.Limits.{InLimits}
 use Rattle.log_step.specs.Answers.{Limited, StepJudged}
 use Rattle.log_line.specs.declared.preds.Links.{Links}
 use Rattle.log_step.specs.declared.StepValues.{StepValues}
-use Rattle.log_store.specs.Stores.{StepStored, LineAdded}
+use Rattle.log_store.specs.inner.Stores.{StepStored, LineAdded}
 
 module _ (count v before : ℕ) (c : Columns) (fs : List (List ℕ)) (old : List ℕ) (a : Result (StepValues × Links) Refusal)
     (j : StepJudged count v before c fs a) where
-  pub line_refused : length old ≡ 7170 → (f : Refusal) → a ≡ Err f → LineAdded count v before c fs old (Err f) old
+  pub line_refused : length old ≡ log_length → (f : Refusal) → a ≡ Err f → LineAdded count v before c fs old (Err f) old
   line_refused s f q = record {
     size = s;
     limits = tt;
@@ -25,10 +26,10 @@ module _ (count v before : ℕ) (c : Columns) (fs : List (List ℕ)) (old : List
   }
 
   module _ (w : StepValues × Links) (q : a ≡ Ok w) where
-    line_kept : (length w.1.first ≡ 8) × InLimits w.1.count v before
+    line_kept : (length w.1.first ≡ most_preds) × InLimits w.1.count v before
     line_kept = subst (Limited v before) q j.limits
 
-    pub line_room : length w.1.first ≡ 8
+    pub line_room : length w.1.first ≡ most_preds
     line_room = line_kept.0
 
     pub line_limits : InLimits w.1.count v before

@@ -1,5 +1,6 @@
 -- The log buffer (document 01, "Lent rooms": the log room).
 use Rattle.std.specs.Prelude.{ℕ, ◌+◌, ◌-◌, List, [], ◌∷◌, ◌++◌, map, length, replicate}
+use Rattle.layout.specs.Layout.{most_steps, most_links}
 use Rattle.log_line.specs.Step.{Step}
 
 -- The numbers, and zeros up to n of them.
@@ -20,5 +21,5 @@ links (x ∷ xs) = x.preds ++ links xs
 abbrev pub buffer_of : List Step → List ℕ
 buffer_of xs =
     (length xs ∷ [])
-    ++ (padded 1024 (map (λ x. x.labels) xs)
-    ++ (padded 1024 (map (λ x. x.board) xs) ++ (padded 1025 (begins 0 xs) ++ padded 4096 (links xs))))
+    ++ (padded most_steps (map (λ x. x.labels) xs)
+    ++ (padded most_steps (map (λ x. x.board) xs) ++ (padded (most_steps + 1) (begins 0 xs) ++ padded most_links (links xs))))

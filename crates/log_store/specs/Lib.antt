@@ -1,3 +1,2 @@
 pub mod Buffer
-pub mod Stores
-pub mod Accepted
+pub mod inner

@@ -4,7 +4,7 @@
 ghost use Rattle.std.specs.Prelude.{◌≡◌, ◌+◌, ◌≤◌, length};
 ghost use Rattle.log_step.specs.Limits.{InLimits};
 ghost use Rattle.log_step.specs.Answers.{step_with};
-ghost use Rattle.log_store.specs.Stores.{values_stored, links_stored, StepStored, LineAdded};
+ghost use Rattle.log_store.specs.inner.Stores.{values_stored, links_stored, StepStored, LineAdded};
 ghost use Rattle.layout.specs.Layout.{most_links};
 ghost use Rattle.text.specs.Split.{split};
 ghost use Rattle.log_line.specs.Answers.{order_of};
@@ -34,7 +34,7 @@ fn store_values(
 }
 
 // Stores links after so many others.
-#[tactic(auto, unfolding(crate::specs::Stores::links_stored))]
+#[tactic(auto, unfolding(crate::specs::inner::Stores::links_stored))]
 fn store_links(buffer: &mut [u16; layout::LOG_LENGTH], before: u16, links: &[u16])
     requires { before + length links.now ≤ most_links }
     ensures { buffer.new ≡ links_stored buffer.old before links.now }

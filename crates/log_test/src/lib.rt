@@ -28,7 +28,7 @@ fn values_ok(log: &LogNumbers, labels: u16, v: usize) -> bool
 
 // The label sets and the boards of all steps.
 fn all_values(log: &LogNumbers, labels: u16) -> bool
-    ensures { result ≡ all_below 1024 (values_ok labels log.now) }
+    ensures { result ≡ all_below most_steps (values_ok labels log.now) }
 {
     (0..layout::MOST_STEPS).all(|v| values_ok(log, labels, v))
 }

@@ -13,7 +13,7 @@ use Rattle.layout.specs.Layout.{most_labels, log_length}
 use Rattle.log_line.specs.Step.{Step}
 use Rattle.log_line.specs.Format.{Known, log_text}
 use Rattle.log_store.specs.Buffer.{buffer_of}
-use Rattle.log_buffer.specs.Meaning.{log_of}
+use Rattle.log_buffer.specs.Meaning.{label_sets, log_of_room}
 use Rattle.log_texts.specs.Given.{GivenLog}
 use Rattle.log_buffer.specs.Valid.{is_log}
 use Rattle.log_texts.specs.Spelled.{steps_of, text_of}
@@ -36,11 +36,11 @@ pub record Means (G : Dag) (xs : List Step) : Type 0 where
   pub preds : (v : ℕ) → v < length xs → G.preds v ≡ (get_or xs v no_step).preds
 
 pub given_means : (count : ℕ) (b text : List ℕ) (k : Known) → log_text count text ≡ accepted k → log_length ≤ length b
-    → take log_length b ≡ buffer_of k.steps → Means (log_of b) k.steps
+    → take log_length b ≡ buffer_of k.steps → Means (log_of_room b) k.steps
 given_means count b text k reads long gives =
     let w = accepted_whole count text k reads in
     record {
-      size = size_is b ∙ counted count b k.steps long w gives;
+      size = size_is b (label_sets b) ∙ counted count b k.steps long w gives;
       labels = labels_mean count b k.steps long w gives;
       preds = preds_mean count b k.steps long w gives;
     }

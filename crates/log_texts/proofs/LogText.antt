@@ -11,10 +11,10 @@ use lib.Pow.{pow_mono}
 use lib.ListN.{length, get_or, length-append}
 use Rattle.text.specs.Split.{split, joined, line_from}
 use Rattle.text.specs.Lines.{TextLine, lines_of, printable, whole}
-use Rattle.numbers.specs.Numbers.{is_number, value_of, largest, spell}
+use Rattle.numbers.specs.Numbers.{is_number, value_of, spell}
 use Rattle.text.specs.Walk.{Judged, passed, accepted, proceed, walk, read_text}
 use Rattle.text.proofs.WalkLaws.{size_right}
-use Rattle.layout.specs.Layout.{most_line, most_board, most_steps, most_links, most_preds, most_labels}
+use Rattle.layout.specs.Layout.{most_line, most_board, most_steps, most_links, most_preds, most_labels, most_number, most_label_set}
 use Rattle.log_line.specs.Header.{Columns, place_of, vertex_name, board_name, labels_name, preds_name}
 use Rattle.numbers.specs.Listed.{is_list}
 use Rattle.log_line.specs.Step.{Step, step_of, malformed, misnumbered, link_count}
@@ -34,12 +34,12 @@ use Rattle.numbers.proofs.ListedLaws.{word_list, word_reads, word_lacks, word_pr
 record Spellable (v : ℕ) (x : Step) : Type 0 where
   number : v < most_steps
   board : x.board ≤ most_board
-  labels : x.labels ≤ largest
+  labels : x.labels ≤ most_label_set
   preds : Under (10 ^ 4) x.preds
   at_most : length x.preds ≤ most_preds
 
-readable : {v : ℕ} {x : Step} → Spellable v x → Under 65536 x.preds
-readable {x = x} s = under_more (10 ^ 4) 65536 x.preds (omega arith) s.preds
+readable : {v : ℕ} {x : Step} → Spellable v x → Under (most_number + 1) x.preds
+readable {x = x} s = under_more (10 ^ 4) (most_number + 1) x.preds (omega arith) s.preds
 
 spellable : (count v : ℕ) (x : Step) → count ≤ most_labels → v < most_steps → StepHolds count v x → Spellable v x
 spellable count v x c l h =
@@ -53,9 +53,9 @@ spellable count v x c l h =
       at_most = h.at_most;
     }
   where
-    set : Dec (v ≡ 0) → (v ≡ 0 → x.labels ≡ 0) × ((v ≡ 0 → ⊥) → x.labels < 2 ^ count) → x.labels ≤ largest
+    set : Dec (v ≡ 0) → (v ≡ 0 → x.labels ≡ 0) × ((v ≡ 0 → ⊥) → x.labels < 2 ^ count) → x.labels ≤ most_label_set
     set (yes z) m = let e = m.0 z in omega arith
-    set (no z) m = let e = m.1 z in let p : 2 ^ count ≤ 2 ^ 16 = pow_mono c in omega arith
+    set (no z) m = let e = m.1 z in let p : 2 ^ count ≤ 2 ^ most_labels = pow_mono c in omega arith
 
 fields_lack : (c v : ℕ) (x : Step) → c < 44 → AllLack c (fields_of v x)
 fields_lack c v x h =

@@ -16,7 +16,7 @@ use Rattle.layout.specs.Layout.{most_board, most_steps, most_links, most_preds}
 use Rattle.log_line.specs.Step.{Step, rising_below, mislinked, mislabelled, link_count}
 use Rattle.log_line.specs.Format.{Known, log_text}
 use Rattle.log_step.proofs.StepLaws.{in_limits}
-use Rattle.log_store.specs.Accepted.{StepFits, StepsFit, none, more}
+use Rattle.log_store.specs.inner.Accepted.{StepFits, StepsFit, none, more}
 use Rattle.log_store.proofs.AcceptedLaws.{accepted_fit}
 
 -- ---- links

@@ -15,14 +15,14 @@ use Rattle.sets.specs.Sets.{members}
 use Rattle.layout.specs.Layout.{most_labels, most_steps, most_links, labels_at, board_at, begin_at, link_at, log_length}
 use Rattle.log_line.specs.Step.{Step, link_count}
 use Rattle.log_store.specs.Buffer.{begins, links, buffer_of}
-use Rattle.log_store.specs.Accepted.{StepsFit, none, more}
+use Rattle.log_store.specs.inner.Accepted.{StepsFit, none, more}
 use Rattle.log_store.proofs.AcceptedLaws.{few_steps, few_links}
 use Rattle.log_store.proofs.BufferLaws.{count_end, count_more, links_end, links_more, length_begins, length_links}
 use Rattle.log_store.proofs.BufferFacts.{Holds, buffer_holds, holds_buffer, begins_at}
-use Rattle.log_buffer.specs.Meaning.{steps_in, links_into, log_of}
+use Rattle.log_buffer.specs.Meaning.{steps_in, links_into, label_sets, log_of_room}
 use Rattle.log_texts.specs.Spelled.{step_in, steps_up_to, steps_of}
 use Rattle.log_buffer.proofs.Sound.{Sound, begin, width, begin_next, begin_inside}
-use Rattle.log_buffer.proofs.Meaning.{labels_are, preds_are, preds_length, pred_at}
+use Rattle.log_buffer.proofs.Meaning.{label_set_is, labels_are, preds_are, preds_length, pred_at}
 use Rattle.log_texts.proofs.StepLaws.{Linked, linked_out, linked_in, labelled_out, labelled_in, no_step, StepHolds, hold_fits, hold_at, Whole}
 
 -- ---- where the links of each step begin, and which they are
@@ -71,16 +71,16 @@ module _ (count : ℕ) (b : List ℕ) (xs : List Step) (long : log_length ≤ le
   pub counted : at b 0 ≡ length xs
   counted = place 0 (omega arith) ∙ held.count
 
-  labels_there : (v : ℕ) → v < 1024 → at b (labels_at v) ≡ get_or (map (λ x. x.labels) xs) v 0
+  labels_there : (v : ℕ) → v < most_steps → at b (labels_at v) ≡ get_or (map (λ x. x.labels) xs) v 0
   labels_there v l = place (labels_at v) (omega arith) ∙ held.labels v l
 
-  board_there : (v : ℕ) → v < 1024 → at b (board_at v) ≡ get_or (map (λ x. x.board) xs) v 0
+  board_there : (v : ℕ) → v < most_steps → at b (board_at v) ≡ get_or (map (λ x. x.board) xs) v 0
   board_there v l = place (board_at v) (omega arith) ∙ held.board v l
 
-  begins_on : (v : ℕ) → v < 1025 → begin b v ≡ get_or (begins 0 xs) v 0
+  begins_on : (v : ℕ) → v < most_steps + 1 → begin b v ≡ get_or (begins 0 xs) v 0
   begins_on v l = place (begin_at v) (omega arith) ∙ held.begin v l
 
-  links_on : (i : ℕ) → i < 4096 → at b (link_at i) ≡ get_or (links xs) i 0
+  links_on : (i : ℕ) → i < most_links → at b (link_at i) ≡ get_or (links xs) i 0
   links_on i l = place (link_at i) (omega arith) ∙ held.link i l
 
   step : (v : ℕ) → v < length xs → StepHolds count v (get_or xs v no_step)
@@ -160,16 +160,16 @@ module _ (count : ℕ) (b : List ℕ) (xs : List Step) (long : log_length ≤ le
       }
 
   -- the dag that the buffer means has the steps' label sets and links
-  pub labels_mean : (v : ℕ) → v < length xs → (log_of b).labels v ≡ members most_labels (get_or xs v no_step).labels
-  labels_mean v l = let n = counted in labels_are b v (omega arith) ∙ ap (members most_labels) (labels_on v l)
+  pub labels_mean : (v : ℕ) → v < length xs → (log_of_room b).labels v ≡ members most_labels (get_or xs v no_step).labels
+  labels_mean v l = let n = counted in let f = few in labels_are b (label_sets b) v (omega arith) ∙ ap (members most_labels) (label_set_is b v (omega arith) ∙ labels_on v l)
 
-  pub preds_mean : (v : ℕ) → v < length xs → (log_of b).preds v ≡ (get_or xs v no_step).preds
+  pub preds_mean : (v : ℕ) → v < length xs → (log_of_room b).preds v ≡ (get_or xs v no_step).preds
   preds_mean v l =
       let n = counted in
       let i : v < steps_in b = omega arith in
       let e = preds_length steps_sound v i in
       let f = begin_after v l in
-      preds_are b v i
+      preds_are b (label_sets b) v i
       ∙ ext_get_or 0 (links_into b v) (get_or xs v no_step).preds (omega arith) (λ k m. pred_at steps_sound v i k (omega arith) ∙ link_on v k l (omega arith))
 
 -- ---- from the places to the steps
@@ -297,7 +297,7 @@ module _ (count : ℕ) (b : List ℕ) (s : Sound count b) where
           let m = length-map (steps_of b) f in
           past h ∙ sym (get_or-eq_default (map f (steps_of b)) 0 {n = v} (omega arith))
 
-  begin_from : (v : ℕ) → v < 1025 → begin b v ≡ get_or (begins 0 (steps_of b)) v 0
+  begin_from : (v : ℕ) → v < most_steps + 1 → begin b v ≡ get_or (begins 0 (steps_of b)) v 0
   begin_from v l = go (ltb (steps_in b) v) refl
     where
       go : (t : Bool) → ltb (steps_in b) v ≡ t → begin b v ≡ get_or (begins 0 (steps_of b)) v 0
@@ -316,7 +316,7 @@ module _ (count : ℕ) (b : List ℕ) (s : Sound count b) where
           let d = link_count_up_to v h in
           omega arith
 
-  link_from : (i : ℕ) → i < 4096 → at b (link_at i) ≡ get_or (links (steps_of b)) i 0
+  link_from : (i : ℕ) → i < most_links → at b (link_at i) ≡ get_or (links (steps_of b)) i 0
   link_from i l = go (ltb i (begin b (steps_in b))) refl
     where
       all : links (steps_of b) ≡ take (begin b (steps_in b)) (drop (link_at 0) b)

@@ -1,30 +1,30 @@
 -- The reader's loop over the lines below the header: what is known so far, and each way out.
 -- Assumes nothing.
-use mathlib.Core.Path.{◌≡◌, refl, sym, ap, ap₂, ◌∙◌, subst}
-use mathlib.Core.Bool.{true, false}
+use mathlib.Core.Path.{◌≡◌, refl, sym, ap, ◌∙◌, subst}
 use mathlib.Core.List.{List, [], ◌∷◌, ◌++◌}
-use Prim.Native.Nat.{ℕ, ◌+◌, ◌-◌, ◌^◌, ◌≤◌, ◌<◌}
+use Prim.Native.Nat.{ℕ, ◌+◌, ◌-◌, ◌≤◌, ◌<◌}
 use native.Mathlib.Omega.{arith}
 use borrow.Author.Tests.{eq-eqb, ne_eqb}
 use lib.ListN.{length, take, drop, replicate, length-append}
 use lib.Seq.{length-take-le}
 use Rattle.answer.specs.Answers.{accepted_with, refused_at}
 use Rattle.text.specs.Split.{split}
-use Rattle.text.specs.Lines.{TextLine, lines_of, line_of, whole, whole_or}
-use Rattle.text.specs.Walk.{refused, Outcome, accepted, faulty, walk}
-use Rattle.text.specs.declared.lines.LineFault.{LineFault}
+use Rattle.text.specs.Lines.{lines_of, line_of, whole_or}
+use Rattle.text.specs.Walk.{Outcome, accepted, faulty, walk, judge_fields}
 use Rattle.std.specs.Prelude.{Result, Ok, Err}
 use Rattle.text.specs.declared.faults.Fault.{Fault}
-use Rattle.text.specs.Faults.{in_line}
-use Rattle.text.proofs.FaultLaws.{lined_ok, lined_err, whole_ok, whole_err}
-use Rattle.text.proofs.WalkLaws.{text_end, text_broken, text_refused, text_passed, lent_whole, line_in, after_in, line_fits, after_fits, left_falls}
+use Rattle.text.specs.inner.Faults.{in_line}
+use Rattle.text.proofs.FaultLaws.{lined_ok}
+use Rattle.text.proofs.WalkLaws.{text_end}
+use Rattle.text.proofs.FormatLaws.{below_judged, end_fits, next_fits, rest_falls, line_broken, line_refused, line_passed}
+use Rattle.layout.specs.Layout.{most_steps, most_links, most_line, log_length}
 use Rattle.log_line.specs.Step.{Step, link_count}
-use Rattle.log_line.specs.Format.{Known, judge_step, judge_line, conclude}
+use Rattle.log_line.specs.Format.{Known, judge_step, judge_line, log_format, conclude}
 use Rattle.log_line.specs.Answers.{refusal_number, order_of}
 use Rattle.log_step.specs.Limits.{InLimits}
 use Rattle.log_step.specs.Answers.{Limited}
-use Rattle.log_walk.specs.Reading.{steps_read}
-use Rattle.log_store.specs.Stores.{knowing, Added, LineAdded}
+use Rattle.log_walk.specs.inner.Reading.{steps_read}
+use Rattle.log_store.specs.inner.Stores.{knowing, Added, LineAdded}
 use Rattle.log_store.specs.Buffer.{begins, links, buffer_of}
 use Rattle.log_walk.specs.Filled.{answer_of, filled_by}
 use Rattle.log_line.specs.declared.refusals.Refusal.{Refusal}
@@ -43,22 +43,19 @@ pub record Reading (text : List ℕ) (start count : ℕ) (o : ColumnOrder) (at v
   pub linked : link_count known ≡ edges
   pub stored : buffer ≡ buffer_of known
 
-zeros : replicate {A = ℕ} 7170 0 ≡ buffer_of []
+zeros : replicate {A = ℕ} log_length 0 ≡ buffer_of []
 unfolding begins links
 zeros = refl
 
-reading_start : (text : List ℕ) (start count : ℕ) (o : ColumnOrder) → Reading text start count o start 0 0 (replicate 7170 0)
+reading_start : (text : List ℕ) (start count : ℕ) (o : ColumnOrder) → Reading text start count o start 0 0 (replicate log_length 0)
 reading_start text start count o = record { known = []; ahead = refl; counted = refl; linked = count_end; stored = zeros }
 
 pub reading_none : (text : List ℕ) (start count : ℕ) (o : ColumnOrder) (v : ℕ) → v ≡ 0 → (edges : ℕ) → edges ≡ 0
-    → Reading text start count o start v edges (replicate 7170 0)
+    → Reading text start count o start v edges (replicate log_length 0)
 reading_none text start count o v z edges y = rw (z, y) (reading_start text start count o)
 
-pub log_room : (log buffer : List ℕ) → 7170 ≤ length log → length buffer ≡ 7170 → length (take 7170 log) ≡ length buffer
-log_room log buffer h e = length-take-le 7170 log h ∙ sym e
-
-pub not_whole : (count : ℕ) (k : Known) (n : ℕ) (l : TextLine) → whole 240 l ≡ false → judge_line count k n l ≡ refused 21
-not_whole count k n l e = rw e
+pub log_room : (log buffer : List ℕ) → log_length ≤ length log → length buffer ≡ log_length → length (take log_length log) ≡ length buffer
+log_room log buffer h e = length-take-le log_length log h ∙ sym e
 
 steps_fault : (count : ℕ) (o : ColumnOrder) (rest : List ℕ) (n line : ℕ)
     → walk (judge_line count) (knowing (order_of o) []) 2 (lines_of rest) ≡ faulty n line
@@ -77,36 +74,6 @@ steps_all : (count : ℕ) (o : ColumnOrder) (rest : List ℕ) (xs : List Step)
     → (length xs ≡ 0 → ⊥) → steps_read count (order_of o) rest ≡ accepted (knowing (order_of o) xs)
 unfolding steps_read
 steps_all count o rest xs e z = ap conclude e ∙ rw (ne_eqb (length xs) 0 z)
-
--- What is found of the line that begins at a place, with its number. Where it ends holds whatever the refusal of a broken one, and however long it may be.
-module _ {R : Type 0} (otherwise : R) (most : ℕ) (text : List ℕ) (at line : ℕ)
-    (b : Result ℕ R) (given : b ≡ whole_or otherwise (line_of most (take (length text - at) (drop at text))))
-    (r : Result ℕ (Fault R)) (said : r ≡ in_line line b) where
-  pub line_broken : (f : Fault R) → r ≡ Err f
-      → (g : LineFault) × (line_of most (take (length text - at) (drop at text)) ≡ Err g) × (f.refusal ≡ otherwise) × (f.line ≡ line)
-  line_broken f p =
-      let e = lined_err line b f (sym said ∙ p) in
-      let w = whole_err otherwise (line_of most (take (length text - at) (drop at text))) f.refusal (sym given ∙ e.0) in
-      (w.0, w.1, w.2, e.1)
-
-  module _ (e : ℕ) (p : r ≡ Ok e) where
-    pub line_whole : line_of most (take (length text - at) (drop at text)) ≡ Ok e
-    line_whole = whole_ok otherwise (line_of most (take (length text - at) (drop at text))) e (sym given ∙ lined_ok line b e (sym said ∙ p))
-
-    pub end_in : at + e ≤ length text
-    end_in = line_in text at most _ refl e line_whole
-
-    pub next_in : at + e + 1 ≤ length text
-    next_in = after_in text at most _ refl e line_whole
-
-    pub end_fits : length text < 2 ^ 64 → at + e < 2 ^ 64
-    end_fits = line_fits text at most _ refl e line_whole
-
-    pub next_fits : length text < 2 ^ 64 → at + e + 1 < 2 ^ 64
-    next_fits = after_fits text at most _ refl e line_whole
-
-    pub rest_falls : length text - (at + e + 1) < length text - at
-    rest_falls = left_falls text at most _ refl e line_whole
 
 -- ---- the loop
 
@@ -132,21 +99,19 @@ module _ (text : List ℕ) (start count : ℕ) (o : ColumnOrder) (at v edges : �
         ap accepted_with (sym g.counted) ∙ sym
         (ap answer_of (steps_all count o (drop start text) g.known ended (λ e. z (sym g.counted ∙ e))))
 
-    pub all_filled : (v ≡ 0 → ⊥) → (log front : List ℕ) → front ≡ buffer → front ++ drop 7170 log ≡ filled_by (steps_read count (order_of o) (drop start text)) log
+    pub all_filled : (v ≡ 0 → ⊥) → (log front : List ℕ) → front ≡ buffer → front ++ drop log_length log ≡ filled_by (steps_read count (order_of o) (drop start text)) log
     all_filled z log front e =
-        ap (λ (b : List ℕ). b ++ drop 7170 log) (e ∙ g.stored)
+        ap (λ (b : List ℕ). b ++ drop log_length log) (e ∙ g.stored)
         ∙ sym (ap (λ (k : Outcome Known). filled_by k log) (steps_all count o (drop start text) g.known ended (λ e. z (sym g.counted ∙ e))))
 
   -- ---- a line
 
-  module _ (b : Result ℕ Refusal) (given : b ≡ whole_or Malformed (line_of 240 (take (length text - at) (drop at text))))
+  module _ (b : Result ℕ Refusal) (given : b ≡ whole_or Malformed (line_of most_line (take (length text - at) (drop at text))))
       (r : Result ℕ (Fault Refusal)) (said : r ≡ in_line (v + 2) b) where
     module _ (h : at < length text) (f : Fault Refusal) (p : r ≡ Err f) where
       broken : all ≡ faulty (refusal_number f.refusal) f.line
       broken =
-          let w = line_broken Malformed 240 text at (v + 2) b given r said f p in
-          text_broken (judge_line count) (knowing (order_of o) g.known) (v + 2) text at all g.ahead 240 _ refl 21 (not_whole count) h w.0 w.1
-          ∙ sym (ap₂ (λ (x : Refusal) (n : ℕ). faulty (refusal_number x) n) w.2 w.3)
+          line_broken (log_format count) refusal_number Malformed refl (knowing (order_of o) g.known) (v + 2) text at all g.ahead b given r said h f p
 
       pub broken_answered : refused_at (refusal_number f.refusal) f.line ≡ answer_of (steps_read count (order_of o) (drop start text))
       broken_answered = sym (ap answer_of (steps_fault count o (drop start text) (refusal_number f.refusal) f.line broken))
@@ -159,14 +124,9 @@ module _ (text : List ℕ) (start count : ℕ) (o : ColumnOrder) (at v edges : �
       d : LineAdded count v edges (order_of o) (split 32 (take (at + e - at) (drop at text))) buffer a new
       d = subst (λ (k : ℕ). LineAdded k v edges (order_of o) (split 32 (take (at + e - at) (drop at text))) buffer a new) same added
 
-      here : line_of 240 (take (length text - at) (drop at text)) ≡ Ok e
-      here = line_whole Malformed 240 text at (v + 2) b given r said e p
-
-      judged : judge_line count (knowing (order_of o) g.known) (v + 2) (record { bytes = take (at + e - at) (drop at text); newline = true })
+      judged : judge_fields (log_format count) (knowing (order_of o) g.known) (v + 2) (split 32 (take (at + e - at) (drop at text)))
           ≡ judge_step count (knowing (order_of o) g.known) (v + 2) (split 32 (take (at + e - at) (drop at text)))
-      judged =
-          let w = lent_whole (judge_line count) (knowing (order_of o) g.known) (v + 2) text at all g.ahead 240 _ refl e here in
-          rw (w, ne_eqb (v + 2) 1 (λ z. omega arith))
+      judged = below_judged (log_format count) (knowing (order_of o) g.known) (v + 2) (split 32 (take (at + e - at) (drop at text))) (omega arith)
 
       outcome : Added count v (order_of o) (split 32 (take (at + e - at) (drop at text))) g.known a new
       outcome = d.added g.known g.counted g.linked g.stored
@@ -175,10 +135,12 @@ module _ (text : List ℕ) (start count : ℕ) (o : ColumnOrder) (at v edges : �
         module _ (f : Fault Refusal) (q : s ≡ Err f) where
           refusing : all ≡ faulty (refusal_number f.refusal) f.line
           refusing =
-              let l = lined_err (v + 2) a f (sym told ∙ q) in
-              text_refused (judge_line count) (knowing (order_of o) g.known) (v + 2) text at all g.ahead 240 _ refl e here (refusal_number f.refusal)
-              (judged ∙ subst (λ (b : Result (StepValues × Links) Refusal). Added count v (order_of o) (split 32 (take (at + e - at) (drop at text))) g.known b new) l.0 outcome)
-              ∙ sym (ap (faulty (refusal_number f.refusal)) l.1)
+              line_refused (log_format count) refusal_number Malformed refl (knowing (order_of o) g.known) (v + 2) text at all g.ahead b given r said e p a s told
+              (λ x y.
+              judged
+              ∙ subst (λ (b : Result (StepValues × Links) Refusal). Added count v (order_of o) (split 32 (take (at + e - at) (drop at text))) g.known b new) y
+              outcome)
+              f q
 
           pub refused_answered : refused_at (refusal_number f.refusal) f.line ≡ answer_of (steps_read count (order_of o) (drop start text))
           refused_answered =
@@ -194,10 +156,10 @@ module _ (text : List ℕ) (start count : ℕ) (o : ColumnOrder) (at v edges : �
           pub values_limits : InLimits w.1.count v edges
           values_limits = (subst (Limited v edges) q d.limits).1
 
-          pub step_more : v + 1 ≤ 1024
+          pub step_more : v + 1 ≤ most_steps
           step_more = let h = values_limits.step in omega arith
 
-          pub links_more : edges + w.1.count ≤ 4096
+          pub links_more : edges + w.1.count ≤ most_links
           links_more = values_limits.all
 
           read_on : Reading text start count o (at + e + 1) (v + 1) (edges + w.1.count) new
@@ -211,7 +173,7 @@ module _ (text : List ℕ) (start count : ℕ) (o : ColumnOrder) (at v edges : �
                   record {
                     known = g.known ++ (record { board = w.0.board; labels = w.0.labels; preds = us } ∷ []);
                     ahead =
-                        text_passed (judge_line count) (knowing (order_of o) g.known) (v + 2) text at all g.ahead 240 _ refl e here
+                        line_passed (log_format count) refusal_number Malformed refl (knowing (order_of o) g.known) (v + 2) text at all g.ahead b given r said e p
                         (knowing (order_of o) (g.known ++ (record { board = w.0.board; labels = w.0.labels; preds = us } ∷ []))) (judged ∙ passes)
                         ∙ ap (λ (n : ℕ). walk (judge_line count) (knowing (order_of o) (g.known ++ (record { board = w.0.board; labels = w.0.labels; preds = us } ∷ []))) n
                         (lines_of (drop (at + e + 1) text))) n;

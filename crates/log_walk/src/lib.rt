@@ -2,9 +2,10 @@
 #![tactic(auto)]
 
 ghost use Rattle.std.specs.Prelude.{◌≡◌, ◌≤◌, length, drop};
+ghost use Rattle.layout.specs.Layout.{most_labels, log_length};
 ghost use Rattle.log_line.specs.Answers.{order_of};
 ghost use Rattle.log_walk.specs.Filled.{answered, answer_of, filled_by};
-ghost use Rattle.log_walk.specs.Reading.{steps_read};
+ghost use Rattle.log_walk.specs.inner.Reading.{steps_read};
 
 use log_line::header::ColumnOrder;
 use log_line::refusals::Refusal;
@@ -23,7 +24,7 @@ pub fn read_steps(
     labels: u16,
     log: &mut [u16],
 ) -> Result<u16, Fault<Refusal>>
-    requires { (start ≤ length text.now) × (labels ≤ 16) × (7170 ≤ length log.old) }
+    requires { (start ≤ length text.now) × (labels ≤ most_labels) × (log_length ≤ length log.old) }
     ensures value { answered result ≡ answer_of (steps_read labels (order_of order) (drop start text.now)) }
     ensures log_after { log.new ≡ filled_by (steps_read labels (order_of order) (drop start text.now)) log.old }
 {

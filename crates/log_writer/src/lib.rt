@@ -2,6 +2,7 @@
 #![tactic(auto)]
 
 ghost use Rattle.std.specs.Prelude.{◌≤◌, ◌≡◌};
+ghost use Rattle.layout.specs.Layout.{most_labels};
 ghost use Rattle.log_writer.specs.Writer.{write_answer, text_after, fit_answer, fit_after};
 
 use answer::Answer;
@@ -10,7 +11,7 @@ use log_layout::{TestedLog, lay_log};
 // Tests 7 and 8, and the text, for a log buffer of its documented length.
 #[tactic(auto, using(crate::proofs::Fits::text_kit))]
 fn write_fit(log: &[u16], labels: u16, text: &mut [u8]) -> Answer
-    requires { labels ≤ 16 }
+    requires { labels ≤ most_labels }
     ensures value { result ≡ fit_answer log.now labels text.old }
     ensures text_after { text.new ≡ fit_after log.now labels text.old }
 {

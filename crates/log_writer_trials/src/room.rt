@@ -1,7 +1,6 @@
 // A log's room, and how many labels its text has.
 use answer::Answer;
-use places::LogRoom;
-use random_inputs::{Labels, Links, Shape, add_power, draw_log, reduced};
+use random_inputs::{Labels, Links, LogRoom, Shape, add_power, draw_log, reduced};
 use std::alloc::{AllocError, Global};
 use text_changes::Text;
 use trial::Random;

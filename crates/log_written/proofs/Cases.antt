@@ -1,6 +1,6 @@
 -- The order of the refusals, on a list of calls: one for each refusal, one for each two that apply together, and rooms around the length.
 -- Assumes nothing.
-use Prim.Native.Nat.{ℕ}
+use Prim.Native.Nat.{ℕ, ◌+◌}
 use mathlib.Core.Path.{◌≡◌, refl}
 use mathlib.Core.Bool.{true, false}
 use mathlib.Core.List.{List, [], ◌∷◌, ◌++◌, map}
@@ -15,7 +15,7 @@ use Rattle.text.specs.Lines.{as_lines, printable}
 use Rattle.text.specs.Walk.{accepted, walk}
 use Rattle.numbers.specs.Numbers.{spell_in, digits, value_from, decimal}
 use Rattle.numbers.specs.Listed.{are_numbers}
-use Rattle.layout.specs.Layout.{log_length}
+use Rattle.layout.specs.Layout.{log_length, most_labels, most_board}
 use Rattle.log_line.specs.Header.{place_of}
 use Rattle.log_line.specs.Step.{Step, rising_below, link_count}
 use Rattle.log_line.specs.Format.{log_text}
@@ -32,7 +32,7 @@ abbrev steps : List Step
 steps =
     record { board = 0; labels = 0; preds = [] }
     ∷ record { board = 7; labels = 40000; preds = 0 ∷ [] }
-    ∷ record { board = 255; labels = 5; preds = 0 ∷ 1 ∷ [] }
+    ∷ record { board = most_board; labels = 5; preds = 0 ∷ 1 ∷ [] }
     ∷ []
 
 unfoldable pub three_steps : List ℕ
@@ -40,21 +40,21 @@ three_steps = buffer_of steps
 
 -- No step at all: no text gives it.
 unfoldable pub no_step : List ℕ
-no_step = replicate 7170 0
+no_step = replicate log_length 0
 
-three_length : length three_steps ≡ 7170
+three_length : length three_steps ≡ log_length
 unfolding three_steps begins links
 three_length = refl
 
-none_length : length no_step ≡ 7170
+none_length : length no_step ≡ log_length
 unfolding no_step
 none_length = refl
 
-three_whole : take 7170 three_steps ≡ three_steps
+three_whole : take log_length three_steps ≡ three_steps
 unfolding three_steps begins links
 three_whole = refl
 
-three_says : log_text 16 (text_of three_steps) ≡ accepted (known steps)
+three_says : log_text most_labels (text_of three_steps) ≡ accepted (known steps)
 unfolding three_steps begins links steps_up_to step_lines joined spell_in walk as_lines split printable digits value_from decimal place_of are_numbers rising_below link_count
 three_says = refl
 
@@ -79,7 +79,7 @@ more_length : length three_and_more ≡ 7171
 unfolding three_and_more three_steps begins links
 more_length = refl
 
-more_front : take 7170 three_and_more ≡ three_steps
+more_front : take log_length three_and_more ≡ three_steps
 unfolding three_and_more three_steps begins links
 more_front = refl
 
@@ -88,8 +88,8 @@ unfolding three_steps
 three_given = three_whole
 
 -- The steps pass under 16 labels and not under 3, and a buffer without steps does not pass.
-three_passes : is_log 16 three_steps ≡ true
-three_passes = yes_true (is_log 16 three_steps) (given_passes 16 three_steps (text_of three_steps) (known steps) three_says (omega (arith, three_length)) three_given)
+three_passes : is_log most_labels three_steps ≡ true
+three_passes = yes_true (is_log most_labels three_steps) (given_passes most_labels three_steps (text_of three_steps) (known steps) three_says (omega (arith, three_length)) three_given)
 
 labels_are : get_or three_steps 2 0 ≡ 40000
 unfolding three_steps
@@ -102,12 +102,12 @@ count_is = refl
 three_fails : is_log 3 three_steps ≡ false
 three_fails = no_false (is_log 3 three_steps) (λ t. let h = ((sound_iff 3 three_steps).0 t).labelled 1 (omega (arith, count_is)) (λ e. absurd (omega arith)) in omega (arith, labels_are))
 
-none_count : get_or (take 7170 no_step) 0 0 ≡ 0
+none_count : get_or (take log_length no_step) 0 0 ≡ 0
 unfolding no_step
 none_count = refl
 
-none_fails : is_log 16 (take 7170 no_step) ≡ false
-none_fails = no_false (is_log 16 (take 7170 no_step)) (λ t. let h = ((sound_iff 16 (take 7170 no_step)).0 t).started in omega (arith, none_count))
+none_fails : is_log most_labels (take log_length no_step) ≡ false
+none_fails = no_false (is_log most_labels (take log_length no_step)) (λ t. let h = ((sound_iff most_labels (take log_length no_step)).0 t).started in omega (arith, none_count))
 
 -- ---- the calls
 
@@ -127,18 +127,18 @@ answered c = write_answer c.log c.count (places c.room)
 unfoldable pub calls : List Call
 calls =
     record { log = []; count = 0; room = 0; answer = refused_at 1 0 }
-    ∷ record { log = []; count = 16; room = 100; answer = refused_at 1 0 }
+    ∷ record { log = []; count = most_labels; room = 100; answer = refused_at 1 0 }
     ∷ record { log = no_step; count = 0; room = 0; answer = refused_at 5 0 }
-    ∷ record { log = no_step; count = 17; room = 0; answer = refused_at 5 0 }
-    ∷ record { log = three_steps; count = 17; room = 58; answer = refused_at 5 0 }
-    ∷ record { log = no_step; count = 16; room = 0; answer = refused_at 7 0 }
+    ∷ record { log = no_step; count = most_labels + 1; room = 0; answer = refused_at 5 0 }
+    ∷ record { log = three_steps; count = most_labels + 1; room = 58; answer = refused_at 5 0 }
+    ∷ record { log = no_step; count = most_labels; room = 0; answer = refused_at 7 0 }
     ∷ record { log = three_steps; count = 3; room = 58; answer = refused_at 7 0 }
     ∷ record { log = three_steps; count = 3; room = 0; answer = refused_at 7 0 }
-    ∷ record { log = three_steps; count = 16; room = 0; answer = refused_at 8 0 }
-    ∷ record { log = three_steps; count = 16; room = 57; answer = refused_at 8 0 }
-    ∷ record { log = three_steps; count = 16; room = 58; answer = accepted_with 58 }
-    ∷ record { log = three_steps; count = 16; room = 59; answer = accepted_with 58 }
-    ∷ record { log = three_and_more; count = 16; room = 58; answer = accepted_with 58 }
+    ∷ record { log = three_steps; count = most_labels; room = 0; answer = refused_at 8 0 }
+    ∷ record { log = three_steps; count = most_labels; room = 57; answer = refused_at 8 0 }
+    ∷ record { log = three_steps; count = most_labels; room = 58; answer = accepted_with 58 }
+    ∷ record { log = three_steps; count = most_labels; room = 59; answer = accepted_with 58 }
+    ∷ record { log = three_and_more; count = most_labels; room = 58; answer = accepted_with 58 }
     ∷ []
 
 pub calls_count : length calls ≡ 13

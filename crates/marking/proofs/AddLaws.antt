@@ -16,11 +16,12 @@ use Rattle.std.proofs.Math.Nat.{min-eq_left}
 use Rattle.sets.proofs.Truth.{or_none}
 use Rattle.sets.specs.Sets.{member, singleton, union}
 use Rattle.sets.proofs.Laws.{member_union, member-singleton, union_below}
+use Rattle.layout.specs.Layout.{most_steps, set_width}
 use Rattle.marking.specs.Marking.{found_at, marked_if, Added, AllMarked}
 
 -- ---- one vertex
 
-pub mark_yes : (prefixes : List ℕ) (k v : ℕ) (b : Bool) → b ≡ true → (x r : ℕ) → x ≡ singleton k → r ≡ union 16 (get_or prefixes v 0) x
+pub mark_yes : (prefixes : List ℕ) (k v : ℕ) (b : Bool) → b ≡ true → (x r : ℕ) → x ≡ singleton k → r ≡ union set_width (get_or prefixes v 0) x
     → set prefixes v r ≡ marked_if b k v prefixes
 unfolding marked_if
 mark_yes prefixes k v b y x r ex er = rw (y, er, ex) refl
@@ -76,7 +77,7 @@ module _ (found : List ℕ) (k u v : ℕ) (old l : List ℕ) (a : Added (found_a
   f = found_at found
 
   -- the turn of v
-  pub added_more : (b : Bool) (new : List ℕ) → b ≡ found_at found v → new ≡ marked_if b k v l → u ≤ v → (n : ℕ) → n ≤ 1024 → v < n → 1024 ≤ length l
+  pub added_more : (b : Bool) (new : List ℕ) → b ≡ found_at found v → new ≡ marked_if b k v l → u ≤ v → (n : ℕ) → n ≤ most_steps → v < n → most_steps ≤ length l
       → Added (found_at found) k u (v + 1) old new
   unfolding marked_if
   added_more b new eb e up n few low long = rw (e, eb) (go (f v) refl)
@@ -88,34 +89,34 @@ module _ (found : List ℕ) (k u v : ℕ) (old l : List ℕ) (a : Added (found_a
       same j w n = ap (λ (b : Bool). member j (get_or old w 0) || (eqb j k && (leb u w && (b && f w)))) (sym (later w v n))
 
       -- before the turn of v nothing was added to its set
-      before : (j : ℕ) → j < 16 → member j (get_or l v 0) ≡ member j (get_or old v 0)
+      before : (j : ℕ) → j < set_width → member j (get_or l v 0) ≡ member j (get_or old v 0)
       before j h = a.sets j v h ∙ rw (le-ltb v v (omega arith)) (or_nothing (member j (get_or old v 0)) (eqb j k) (leb u v))
 
       after : (j : ℕ) → (member j (get_or old v 0) || (eqb j k && (leb u v && (ltb v (v + 1) && f v)))) ≡ (member j (get_or old v 0) || (eqb j k && f v))
       after j = rw (le-leb u v up, lt-ltb v (v + 1) (omega arith)) refl
 
-      go : (b : Bool) → f v ≡ b → Added (found_at found) k u (v + 1) old (cond b (set l v (union 16 (get_or l v 0) (singleton k))) l)
+      go : (b : Bool) → f v ≡ b → Added (found_at found) k u (v + 1) old (cond b (set l v (union set_width (get_or l v 0) (singleton k))) l)
       go false q = record { few = a.few; sets = λ j w h. one j w h (ℕ_discrete w v) }
         where
-          one : (j w : ℕ) → j < 16 → Dec (w ≡ v) → member j (get_or l w 0) ≡ (member j (get_or old w 0) || (eqb j k && (leb u w && (ltb w (v + 1) && f w))))
+          one : (j w : ℕ) → j < set_width → Dec (w ≡ v) → member j (get_or l w 0) ≡ (member j (get_or old w 0) || (eqb j k && (leb u w && (ltb w (v + 1) && f w))))
           one j w h (yes z) = rw z (before j h ∙ sym (after j ∙ ap (λ (c : Bool). member j (get_or old v 0) || (eqb j k && c)) q ∙ or_none (member j (get_or old v 0)) (eqb j k)))
           one j w h (no n) = a.sets j w h ∙ same j w n
       go true q = record { few = λ g w. small g w (ℕ_discrete w v); sets = λ j w h. one j w h (ℕ_discrete w v) }
         where
           r : ℕ
-          r = union 16 (get_or l v 0) (singleton k)
+          r = union set_width (get_or l v 0) (singleton k)
 
           small : ((w : ℕ) → get_or old w 0 < 65536) → (w : ℕ) → Dec (w ≡ v) → get_or (set l v r) w 0 < 65536
-          small g w (yes z) = rw (z, get_or-set_same l v r 0 inside) (union_below 16 (get_or l v 0) (singleton k))
+          small g w (yes z) = rw (z, get_or-set_same l v r 0 inside) (union_below set_width (get_or l v 0) (singleton k))
           small g w (no n) = rw (get_or-set_other l v w r 0 n) (a.few g w)
 
           set_now : (c d : Bool) → (c || d) ≡ (c || (d && true))
           set_now c d = ap (λ (t : Bool). c || t) (sym (and-true d))
 
-          one : (j w : ℕ) → j < 16 → Dec (w ≡ v) → member j (get_or (set l v r) w 0) ≡ (member j (get_or old w 0) || (eqb j k && (leb u w && (ltb w (v + 1) && f w))))
+          one : (j w : ℕ) → j < set_width → Dec (w ≡ v) → member j (get_or (set l v r) w 0) ≡ (member j (get_or old w 0) || (eqb j k && (leb u w && (ltb w (v + 1) && f w))))
           one j w h (yes z) =
               rw z
-              (ap (member j) (get_or-set_same l v r 0 inside) ∙ member_union 16 (get_or l v 0) (singleton k) j h
+              (ap (member j) (get_or-set_same l v r 0 inside) ∙ member_union set_width (get_or l v 0) (singleton k) j h
               ∙ rw (before j h, member-singleton j k) (set_now (member j (get_or old v 0)) (eqb j k))
               ∙ sym (after j ∙ ap (λ (c : Bool). member j (get_or old v 0) || (eqb j k && c)) q))
           one j w h (no n) = ap (member j) (get_or-set_other l v w r 0 n) ∙ a.sets j w h ∙ same j w n

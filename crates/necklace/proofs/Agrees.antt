@@ -21,7 +21,7 @@ use Rattle.necklace.specs.Compute.{some_of, elem, backward, some?, all?, satisfi
 use Rattle.necklace.proofs.Lists.{some_of_out, some_of_in, elem_out, elem_in}
 use Rattle.necklace.proofs.Paths.{path_le}
 use Rattle.necklace.proofs.Backward.{Leads, backward_sound, backward_complete, leads_bare, leads_letter}
-use Rattle.necklace.specs.Forward.{reached, arrives, ahead, forward, EndsIn, reaches?}
+use Rattle.necklace.specs.inner.Forward.{reached, arrives, ahead, forward, EndsIn, reaches?}
 use Rattle.necklace.proofs.Forward.{arrives_at, arrives_out, forward_starts, forward_step, forward_below}
 
 -- ---- what a forward set says

@@ -1,10 +1,10 @@
 -- The backward pass, for a fixed target v: the state q is in the set of w if and only if some reading of some path from w to v runs from q into F.
-use Prim.Native.Nat.{ℕ, zero, suc, ◌-◌, ◌<◌}
-use mathlib.Core.Path.{◌≡◌, refl, ap, ap₂, subst, fun_ext}
+use Prim.Native.Nat.{ℕ, zero, suc, ◌<◌}
+use mathlib.Core.Path.{◌≡◌, refl, subst}
 use mathlib.Core.Logic.{◌⊎◌, inl, inr, ◌↔◌}
-use mathlib.Core.Bool.{Bool, ◌&&◌, ◌||◌}
+use mathlib.Core.Bool.{Bool, ◌&&◌}
 use mathlib.Core.List.{List, [], ◌∷◌}
-use native.Mathlib.Nat.{eq-or-lt_of_le, not-suc-le-zero}
+use native.Mathlib.Nat.{eq-or-lt_of_le}
 use native.Mathlib.Omega.{arith}
 use lib.Dec.{T, eqb, eqb→eq, eqb_refl}
 use Rattle.sets.specs.Sets.{◌∈◌}
@@ -12,7 +12,7 @@ use Rattle.sets.proofs.Truth.{or_l, or_r, or_cases, and_i, and_l, and_r}
 use Rattle.necklace.specs.Dag.{Dag, WellFormed, DagPath, here, edge, Reading, done, silent, letter}
 use Rattle.necklace.specs.Automaton.{Automaton, Run, stay, move}
 use Rattle.necklace.specs.Compute.{some_of, elem, enters, add_back, pass, backward}
-use Rattle.necklace.proofs.Lists.{some_of_out, some_of_in, some_of_ext, elem_out, elem_in}
+use Rattle.necklace.proofs.Lists.{some_of_out, some_of_in, elem_out, elem_in}
 use Rattle.necklace.proofs.Paths.{path_le, nothing}
 
 -- Some reading of the path through xs, from w to v, runs from q into F.
@@ -153,48 +153,3 @@ module _ (G : Dag) (A : Automaton) (F : ℕ → Bool) (v : ℕ) where
 
     pub backward_agrees : (w q : ℕ) → T (backward G A F v w q) ↔ Leads G A F v w q
     backward_agrees w q = (backward_sound w q, backward_complete w q)
-
--- What is left of the pass gives the whole answer: a turn of the loop over the vertices, and its end.
-pub pass_turn : (G : Dag) (A : Automaton) (x : ℕ) (sets : ℕ → ℕ → Bool) → pass G A (suc x) sets ≡ pass G A x (add_back G A (suc x) sets)
-unfolding pass
-pass_turn G A x sets = refl
-
-pub pass_down : (G : Dag) (A : Automaton) (x : ℕ) (sets : ℕ → ℕ → Bool) → 0 < x → pass G A x sets ≡ pass G A (x - 1) (add_back G A x sets)
-pass_down G A zero sets l = absurd (not-suc-le-zero l)
-pass_down G A (suc x) sets l = let e : suc x - 1 ≡ x = omega arith in rw e (pass_turn G A x sets)
-
-pub pass_end : (G : Dag) (A : Automaton) (sets : ℕ → ℕ → Bool) → pass G A 0 sets ≡ sets
-unfolding pass
-pass_end G A sets = refl
-
-pub backward_pass : (G : Dag) (A : Automaton) (F : ℕ → Bool) (v : ℕ) → backward G A F v ≡ pass G A v (λ x r. eqb x v && F r)
-unfolding backward
-backward_pass G A F v = refl
-
--- Sets that agree have passes that agree.
-pub pass_ext : (G : Dag) (A : Automaton) (x : ℕ) (f g : ℕ → ℕ → Bool) → ((w q : ℕ) → f w q ≡ g w q) → (w q : ℕ) → pass G A x f w q ≡ pass G A x g w q
-pass_ext G A x f g h w q = ap (λ (sets : ℕ → ℕ → Bool). pass G A x sets w q) (fun_ext (λ y. fun_ext (λ r. h y r)))
-
--- Sets that agree at every vertex and every state of a kind K that no letter leaves have passes that agree there: K may be the
--- states below a width.
-module _ (G : Dag) (A : Automaton) (K : ℕ → Type 0) (closed : (x a q r : ℕ) → a ∈ G.labels x → K q → r ∈ A.next q a → K r) where
-  abbrev pub Agree : (ℕ → ℕ → Bool) → (ℕ → ℕ → Bool) → Type 0
-  Agree f g = (w q : ℕ) → K q → f w q ≡ g w q
-
-  enters_ext_on : (x : ℕ) (ls : List ℕ) → ((a : ℕ) → a ∈ ls → a ∈ G.labels x) → (S R : ℕ → Bool) → ((r : ℕ) → K r → S r ≡ R r)
-      → (q : ℕ) → K q → enters A ls S q ≡ enters A ls R q
-  enters_ext_on x [] i S R h q k = h q k
-  enters_ext_on x (a ∷ ls) i S R h q k =
-      some_of_ext (λ b. some_of S (A.next q b)) (λ b. some_of R (A.next q b)) (a ∷ ls)
-      (λ b m. some_of_ext S R (A.next q b) (λ r n. h r (closed x b q r (i b m) k n)))
-
-  pub add_back_ext_on : (x : ℕ) (f g : ℕ → ℕ → Bool) → Agree f g → Agree (add_back G A x f) (add_back G A x g)
-  add_back_ext_on x f g h w q k =
-      ap₂ (λ (a b : Bool). a || (elem w (G.preds x) && b)) (h w q k) (enters_ext_on x (G.labels x) (λ a m. m) (f x) (g x) (h x) q k)
-
-  pub pass_ext_on : (x : ℕ) (f g : ℕ → ℕ → Bool) → Agree f g → Agree (pass G A x f) (pass G A x g)
-  unfolding pass
-  pass_ext_on zero f g h = h
-  pass_ext_on (suc x) f g h = pass_ext_on x (add_back G A (suc x) f) (add_back G A (suc x) g) (add_back_ext_on (suc x) f g h)
-
-pub ruleset kit = (pass_turn, pass_down, pass_end, pass_ext, backward_pass)

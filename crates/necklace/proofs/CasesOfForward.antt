@@ -9,7 +9,7 @@ use Rattle.necklace.specs.Necklace.{SOME, ALL}
 use Rattle.necklace.specs.Compute.{elem}
 use Rattle.necklace.specs.Listed.{listed_dag}
 use Rattle.necklace.proofs.Cases.{listing, second_automaton, vented}
-use Rattle.necklace.specs.Forward.{ahead, forward, reaches?}
+use Rattle.necklace.specs.inner.Forward.{ahead, forward, reaches?}
 
 -- Edges 0-1, 0-2, 1-2, 1-3, 2-4, 3-4, 3-5, 1-6; the label vent on vertex 2 moves the automaton from state 0 to state 1.
 abbrev pub dag : Dag

@@ -14,7 +14,7 @@ use Rattle.necklace.specs.Dag.{Dag, WellFormed}
 use Rattle.necklace.specs.Automaton.{Automaton}
 use Rattle.necklace.specs.Compute.{some_of}
 use Rattle.necklace.proofs.Lists.{some_of_out, some_of_in, some_of_ext}
-use Rattle.necklace.specs.Forward.{reached, arrives, ahead, forward}
+use Rattle.necklace.specs.inner.Forward.{reached, arrives, ahead, forward}
 
 -- ---- what arrives at a vertex
 

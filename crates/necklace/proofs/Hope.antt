@@ -17,15 +17,15 @@ use Rattle.necklace.specs.Listed.{listed_dag, listed_automaton}
 use Rattle.necklace.specs.Tests.{one_next?}
 use Rattle.necklace.proofs.Lists.{some_of_out, some_of_in, elem_out, elem_in}
 use Rattle.necklace.proofs.Tests.{one_next_agrees}
-use Rattle.necklace.specs.Forward.{reached, arrives, ahead, forward, among?, reaches?, Hopeful}
+use Rattle.necklace.specs.inner.Forward.{reached, arrives, ahead, forward, among?, reaches?, Hopeful}
 use Rattle.necklace.proofs.Forward.{forward_turn, forward_step, arrives_out}
 
 -- a state from which a hopeful one is reached is hopeful
-hope_back : (A : Automaton) (H : ℕ → Bool) → Hopeful A H → (ls : List ℕ) → ((a : ℕ) → a ∈ ls → a < 16) → (q r : ℕ) → q < 16 → T (reached A ls q r) → T (H r) → T (H q)
-hope_back A H hope [] known q r few t k = subst (λ (z : ℕ). T (H z)) (eqb→eq r q t) k
-hope_back A H hope (a ∷ ls) known q r few t k =
+hope_back : (A : Automaton) (H : ℕ → Bool) → Hopeful A H → (ls : List ℕ) (q r : ℕ) → q < 16 → T (reached A ls q r) → T (H r) → T (H q)
+hope_back A H hope [] q r few t k = subst (λ (z : ℕ). T (H z)) (eqb→eq r q t) k
+hope_back A H hope (a ∷ ls) q r few t k =
     let b = some_of_out (λ b. elem r (A.next q b)) (a ∷ ls) t in
-    hope.before q b.0 r few (known b.0 b.1) (elem_out r (A.next q b.0) b.2) k
+    hope.before q b.0 r few (elem_out r (A.next q b.0) b.2) k
 
 -- some state of H is there, SOME or ALL
 pub among_some : (G : Dag) (A : Automaton) (starts H : ℕ → Bool) (m : Modality) (v : ℕ) → T (among? m G A H starts v) → T (some_below 16 (λ r. H r && forward G A starts v r))
@@ -34,16 +34,16 @@ among_some G A starts H ALL v t =
     and_l (some_below 16 (λ r. H r && forward G A starts v r)) (not (some_below 16 (λ r. (ltb r A.states && not (H r)) && forward G A starts v r))) t
 
 -- Under ALL a state beyond hope has a next state, and that is beyond hope too.
-lost_on : {c : ℕ} (A : Automaton) (H : ℕ → Bool) → Hopeful A H → OneNext c A → c ≤ 16 → A.states ≤ 16 → (ls : List ℕ) → ((a : ℕ) → a ∈ ls → a < c)
+lost_on : {c : ℕ} (A : Automaton) (H : ℕ → Bool) → Hopeful A H → OneNext c A → A.states ≤ 16 → (ls : List ℕ) → ((a : ℕ) → a ∈ ls → a < c)
     → (q : ℕ) → q < A.states → (T (H q) → ⊥) → (r : ℕ) × (r < A.states) × (T (H r) → ⊥) × T (reached A ls q r)
-lost_on A H hope complete few_labels few_states [] known q l lost = (q, l, lost, eqb_refl q)
-lost_on A H hope complete few_labels few_states (a ∷ ls) known q l lost =
+lost_on A H hope complete few_states [] known q l lost = (q, l, lost, eqb_refl q)
+lost_on A H hope complete few_states (a ∷ ls) known q l lost =
     let b = known a (inl refl) in
     let r = complete.one q a l b in
     let m : r.0 ∈ A.next q a = rw r.2 (inl refl) in (
       r.0,
       r.1,
-      (λ k. lost (hope.before q a r.0 (omega arith) (omega arith) m k)),
+      (λ k. lost (hope.before q a r.0 (omega arith) m k)),
       some_of_in (λ b. elem r.0 (A.next q b)) (a ∷ ls) a (inl refl) (elem_in r.0 (A.next q a) m),
     )
 
@@ -64,7 +64,7 @@ module _ (G : Dag) (A : Automaton) (starts H : ℕ → Bool) (hope : Hopeful A H
 
   -- ---- one turn
 
-  module _ {c : ℕ} (g : WellFormed c G) (few_labels : c ≤ 16) (x : ℕ) where
+  module _ {c : ℕ} (g : WellFormed c G) (x : ℕ) where
     hopes_before : starts x ≡ false → T (hopes x) → (w : ℕ) × (w ∈ G.preds x) × T (hopes w)
     hopes_before fresh t =
         let r = some_below_out 16 (λ r. H r && forward G A starts x r) t in
@@ -76,7 +76,7 @@ module _ (G : Dag) (A : Automaton) (starts H : ℕ → Bool) (hope : Hopeful A H
         go r k (inl s) = absurd (false_no (starts x) fresh (and_l (starts x) (eqb r 0) s))
         go r k (inr s) =
             let a = arrives_out G A (forward G A starts) x r s in
-            let h = hope_back A H hope (G.labels x) (λ b m. let l = g.known x b m in omega arith) a.2 r a.3 a.5 k in
+            let h = hope_back A H hope (G.labels x) a.2 r a.3 a.5 k in
             (a.0, a.1, some_below_in 16 (λ r. H r && forward G A starts a.0 r) a.2 a.3 (and_i (H a.2) (forward G A starts a.0 a.2) h a.4))
 
     loses_after : OneNext c A → A.states ≤ 16 → (w : ℕ) → w ∈ G.preds x → T (loses w) → T (loses x)
@@ -84,7 +84,7 @@ module _ (G : Dag) (A : Automaton) (starts H : ℕ → Bool) (hope : Hopeful A H
         let q = some_below_out 16 (λ r. (ltb r A.states && not (H r)) && forward G A starts w r) t in
         let out = and_l (ltb q.0 A.states && not (H q.0)) (forward G A starts w q.0) q.2 in
         let there = and_r (ltb q.0 A.states && not (H q.0)) (forward G A starts w q.0) q.2 in
-        let r = lost_on A H hope complete few_labels few_states (G.labels x) (g.known x) q.0
+        let r = lost_on A H hope complete few_states (G.labels x) (g.known x) q.0
         (ltb→lt q.0 A.states (and_l (ltb q.0 A.states) (not (H q.0)) out))
         (T_not (H q.0) (and_r (ltb q.0 A.states) (not (H q.0)) out)) in
         let l = r.1 in
@@ -131,7 +131,7 @@ module _ (G : Dag) (A : Automaton) (starts H : ℕ → Bool) (hope : Hopeful A H
 
 -- all states are hopeful
 pub hopeful_all : (A : Automaton) → Hopeful A (λ q. true)
-hopeful_all A = record { accepting = λ q few t. tt; before = λ q a r few known m t. tt }
+hopeful_all A = record { accepting = λ q few t. tt; before = λ q a r few m t. tt }
 
 -- ---- the hopeful states of an automaton
 
@@ -156,18 +156,18 @@ hopeful_case = record { accepting = last; before = back }
     lost r (inl e) t = subst (λ (z : ℕ). T (elem z (0 ∷ 1 ∷ 2 ∷ []))) e t
     lost r (inr x'') t = elim x'' [ ]
 
-    back : (q a r : ℕ) → q < 16 → a < 16 → r ∈ zero_then_one.next q a → T (elem r (0 ∷ 1 ∷ 2 ∷ [])) → T (elem q (0 ∷ 1 ∷ 2 ∷ []))
-    back zero a r few known m t = tt
-    back (suc zero) a r few known m t = tt
-    back (suc (suc zero)) a r few known m t = tt
-    back (suc (suc (suc zero))) zero r few known m t = absurd (lost r m t)
-    back (suc (suc (suc zero))) (suc zero) r few known m t = absurd (lost r m t)
-    back (suc (suc (suc zero))) (suc (suc a)) r few known m t = absurd m
-    back (suc (suc (suc (suc q)))) a r few known m t = absurd m
+    back : (q a r : ℕ) → q < 16 → r ∈ zero_then_one.next q a → T (elem r (0 ∷ 1 ∷ 2 ∷ [])) → T (elem q (0 ∷ 1 ∷ 2 ∷ []))
+    back zero a r few m t = tt
+    back (suc zero) a r few m t = tt
+    back (suc (suc zero)) a r few m t = tt
+    back (suc (suc (suc zero))) zero r few m t = absurd (lost r m t)
+    back (suc (suc (suc zero))) (suc zero) r few m t = absurd (lost r m t)
+    back (suc (suc (suc zero))) (suc (suc a)) r few m t = absurd m
+    back (suc (suc (suc (suc q)))) a r few m t = absurd m
 
 -- 0 and 2 alone are not: 1 leads to 2; nor are 0 and 1: 2 accepts
 pub not_hopeful_before : Hopeful zero_then_one (λ q. elem q (0 ∷ 2 ∷ [])) → ⊥
-not_hopeful_before h = h.before 1 1 2 (omega arith) (omega arith) (inl refl) tt
+not_hopeful_before h = h.before 1 1 2 (omega arith) (inl refl) tt
 
 pub not_hopeful_accepting : Hopeful zero_then_one (λ q. elem q (0 ∷ 1 ∷ [])) → ⊥
 not_hopeful_accepting h = h.accepting 2 (omega arith) tt

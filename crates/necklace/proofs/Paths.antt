@@ -51,9 +51,6 @@ one_edge {y = y} m = record { after = y ∷ []; path = edge m here }
 abbrev pub no_edge : {G : Dag} {u : ℕ} → Route G u u
 no_edge = record { after = []; path = here }
 
-pub path_route : {G : Dag} {x v : ℕ} {xs : List ℕ} → DagPath G x xs v → Route G x v
-path_route {xs = xs} p = record { after = xs; path = p }
-
 -- every list of vertices has a reading
 pub some_reading : (G : Dag) (xs : List ℕ) → (w : List ℕ) × Reading G xs w
 some_reading G [] = ([], done)

@@ -1,10 +1,9 @@
 -- The first k beads hold at v: the recursion of the definition, the test, and the search for the smallest number that passes.
-use Prim.Native.Nat.{ℕ, zero, suc, ◌+◌, ◌-◌, ◌≤◌, ◌<◌}
+use Prim.Native.Nat.{ℕ, zero, suc, ◌+◌, ◌≤◌, ◌<◌}
 use mathlib.Core.Path.{◌≡◌, refl, sym, ◌∙◌, subst}
 use mathlib.Core.Logic.{◌⊎◌, inl, inr, ◌↔◌}
 use mathlib.Core.Bool.{Bool, true, false, cond}
 use native.Mathlib.Nat.{not-suc-le-zero, eq-or-lt_of_le, lt_of_not-le}
-use native.Mathlib.Numerals.{add-one}
 use native.Mathlib.Omega.{arith}
 use lib.Dec.{T, eqb→eq, eqb_refl, leb, leb→le, le→leb}
 use Rattle.sets.specs.Sets.{some_below}
@@ -142,16 +141,3 @@ module _ (G : Dag) (P : Pattern) (k v : ℕ) (t : T (holds? G P (suc k) v)) wher
       let h : before G P k v < suc b.0 = lt_of_not-le (λ (l : b.0 < before G P k v). before_first.smaller b.0 (omega arith) l b.2) in
       let l = b.1 in
       omega arith
-
--- The search as a loop makes it: what is left of it, from i up to n, gives the answer.
-pub seek_stop : (f : ℕ → Bool) (n i : ℕ) → i < n → f i ≡ true → seek f (n - i) i ≡ i
-seek_stop f n i l e = let z : n - i ≡ suc (n - suc i) = omega arith in rw z (seek_yes f (n - suc i) i e)
-
-pub seek_on : (f : ℕ → Bool) (n i : ℕ) → i < n → f i ≡ false → seek f (n - (i + 1)) (i + 1) ≡ seek f (n - i) i
-seek_on f n i l e = let z : n - i ≡ suc (n - suc i) = omega arith in rw (z, add-one i) (sym (seek_no f (n - suc i) i e))
-
-pub seek_end : (f : ℕ → Bool) (n i : ℕ) → n ≤ i → seek f (n - i) i ≡ i
-unfolding seek
-seek_end f n i l = let z : n - i ≡ 0 = omega arith in rw z
-
-pub ruleset kit = (seek_stop, seek_on, seek_end)

@@ -3,6 +3,6 @@ pub mod Automaton
 pub mod Necklace
 pub mod Past
 pub mod Compute
-pub mod Forward
 pub mod Listed
 pub mod Tests
+pub mod inner

@@ -12,6 +12,7 @@ use Rattle.text.specs.Split.{split, joined}
 use Rattle.text.specs.Lines.{printable}
 use Rattle.text.proofs.Spelled.{Lacks, lacks_joined, split_parts, length_joined, printable_listed}
 use Rattle.fields.specs.Fields.{same_bytes}
+use Rattle.layout.specs.Layout.{most_number}
 use Rattle.numbers.specs.Numbers.{spell, is_number}
 use Rattle.numbers.specs.Listed.{is_none, is_list, list_of, list_word, are_numbers}
 use Rattle.numbers.proofs.SpelledNumbers.{length_spell, Under, spells_lack, spells_printable, spells_numbers, spells_values, weight_spells}
@@ -36,11 +37,11 @@ not_none n ns =
 word_parts : (n : ℕ) (ns : List ℕ) → split 44 (list_word (n ∷ ns)) ≡ map spell (n ∷ ns)
 word_parts n ns = split_parts 44 (spell n) (map spell ns) (spells_lack 44 (n ∷ ns) (omega arith))
 
-pub word_list : (ns : List ℕ) → Under 65536 ns → is_list (list_word ns) ≡ true
+pub word_list : (ns : List ℕ) → Under (most_number + 1) ns → is_list (list_word ns) ≡ true
 word_list [] u = refl
 word_list (n ∷ ns) u = rw (not_none n ns, word_parts n ns) (spells_numbers (n ∷ ns) u)
 
-pub word_reads : (ns : List ℕ) → Under 65536 ns → list_of (list_word ns) ≡ ns
+pub word_reads : (ns : List ℕ) → Under (most_number + 1) ns → list_of (list_word ns) ≡ ns
 word_reads [] u = refl
 word_reads (n ∷ ns) u = rw (not_none n ns, word_parts n ns) (spells_values (n ∷ ns) u)
 

@@ -12,7 +12,8 @@ use lib.ListN.{length, get_or, drop, drop_of_length-le, length-append}
 use Rattle.lists.proofs.Parts.{drop_step}
 use Rattle.text.specs.Split.{first_part}
 use Rattle.fields.proofs.FieldLaws.{first_empty, first_at, first_on}
-use Rattle.numbers.specs.Numbers.{digit, value_from, decimal, largest, stop_of, read_answer, first_read, end_of}
+use Rattle.layout.specs.Layout.{most_number}
+use Rattle.numbers.specs.Numbers.{digit, value_from, decimal, stop_of, read_answer, first_read, end_of}
 use Rattle.numbers.proofs.Fronts.{Fronts, fronts_none, Stops, stops_digit, stops_large, stops_zero, goes_on, stop_there, stop_end, value_append}
 
 -- The value with one byte more, after so many bytes of this value; one over the largest where no number can follow.
@@ -134,13 +135,13 @@ begin_value : value_from 0 [] ≡ 0
 unfolding value_from
 begin_value = refl
 
-pub begin : (sep : ℕ) (l : List ℕ) → first_read sep l ≡ read_from largest sep 0 0 (drop 0 l)
+pub begin : (sep : ℕ) (l : List ℕ) → first_read sep l ≡ read_from most_number sep 0 0 (drop 0 l)
 unfolding first_read
-begin sep l = agrees largest sep l [] (fronts_none largest) ∙ rw begin_value refl
+begin sep l = agrees most_number sep l [] (fronts_none most_number) ∙ rw begin_value refl
 
 pub none_left : (sep : ℕ) (l : List ℕ) → length l ≡ 0 → Err 0 ≡ first_read sep l
 none_left sep l e =
-    sym (begin sep l ∙ ap (read_from largest sep 0 0) (drop_of_length-le l {i = 0} (omega arith)) ∙ from_none largest sep 0 0)
+    sym (begin sep l ∙ ap (read_from most_number sep 0 0) (drop_of_length-le l {i = 0} (omega arith)) ∙ from_none most_number sep 0 0)
 
 pub some_left : (l : List ℕ) → (length l ≡ 0 → ⊥) → 0 < length l
 some_left l n = positive (length l) n
@@ -154,28 +155,28 @@ pub ruleset first_kit = (none_left, some_left)
 -- ---- a zero in front
 
 module _ (sep : ℕ) (l : List ℕ) (Some : 0 < length l) (zero_first : get_or l 0 0 ≡ 48) (low : sep < 48) where
-  zero_follows : follows largest 0 0 (get_or l 0 0) ≡ true
+  zero_follows : follows most_number 0 0 (get_or l 0 0) ≡ true
   zero_follows =
       let e = zero_first in
-      rw (le-leb 48 (get_or l 0 0) (omega arith), le-leb (get_or l 0 0) 57 (omega arith), eq-eqb 0 0 refl, le-leb (0 * 10 + (get_or l 0 0 - 48)) largest (omega arith)) (or_true (ltb 0 0))
+      rw (le-leb 48 (get_or l 0 0) (omega arith), le-leb (get_or l 0 0) 57 (omega arith), eq-eqb 0 0 refl, le-leb (0 * 10 + (get_or l 0 0 - 48)) most_number (omega arith)) (or_true (ltb 0 0))
     where
       or_true : (t : Bool) → ((t || true) && true) ≡ true
       or_true true = refl
       or_true false = refl
 
-  behind_zero : first_read sep l ≡ read_from largest sep 1 0 (drop 1 l)
+  behind_zero : first_read sep l ≡ read_from most_number sep 1 0 (drop 1 l)
   behind_zero =
       let e = zero_first in
       let z : 0 * 10 + (get_or l 0 0 - 48) ≡ 0 = omega arith in
-      begin sep l ∙ ap (read_from largest sep 0 0) (drop_step l 0 Some)
-      ∙ from_more largest sep 0 0 (get_or l 0 0) (drop 1 l) (λ q. absurd (omega arith)) zero_follows
-      ∙ ap (λ (w : ℕ). read_from largest sep 1 w (drop 1 l)) z
+      begin sep l ∙ ap (read_from most_number sep 0 0) (drop_step l 0 Some)
+      ∙ from_more most_number sep 0 0 (get_or l 0 0) (drop 1 l) (λ q. absurd (omega arith)) zero_follows
+      ∙ ap (λ (w : ℕ). read_from most_number sep 1 w (drop 1 l)) z
 
   one_read : end_of 1 0 ≡ Ok (0, 1)
   one_read = refl
 
   pub zero_alone : length l ≡ 1 → Ok (0, 1) ≡ first_read sep l
-  zero_alone e = sym (behind_zero ∙ ap (read_from largest sep 1 0) (drop_of_length-le l {i = 1} (omega arith)) ∙ from_none largest sep 1 0 ∙ one_read)
+  zero_alone e = sym (behind_zero ∙ ap (read_from most_number sep 1 0) (drop_of_length-le l {i = 1} (omega arith)) ∙ from_none most_number sep 1 0 ∙ one_read)
 
   module _ (more : length l ≡ 1 → ⊥) where
     longer : 1 < length l
@@ -191,12 +192,12 @@ module _ (sep : ℕ) (l : List ℕ) (Some : 0 < length l) (zero_first : get_or l
 
     pub zero_ended : get_or l 1 0 ≡ sep → Ok (0, 1) ≡ first_read sep l
     zero_ended q =
-        sym (behind_zero ∙ ap (read_from largest sep 1 0) (drop_step l 1 longer) ∙ from_separator largest sep 1 0 (get_or l 1 0) (drop 2 l) q ∙ one_read)
+        sym (behind_zero ∙ ap (read_from most_number sep 1 0) (drop_step l 1 longer) ∙ from_separator most_number sep 1 0 (get_or l 1 0) (drop 2 l) q ∙ one_read)
 
     pub zero_followed : (get_or l 1 0 ≡ sep → ⊥) → Err 1 ≡ first_read sep l
     zero_followed q =
-        sym (behind_zero ∙ ap (read_from largest sep 1 0) (drop_step l 1 longer)
-        ∙ from_stop largest sep 1 0 (get_or l 1 0) (drop 2 l) q (rw (le-ltb 0 0 (omega arith), ne_eqb 1 0 (λ e. omega arith)) (None (digit (get_or l 1 0)))))
+        sym (behind_zero ∙ ap (read_from most_number sep 1 0) (drop_step l 1 longer)
+        ∙ from_stop most_number sep 1 0 (get_or l 1 0) (drop 2 l) q (rw (le-ltb 0 0 (omega arith), ne_eqb 1 0 (λ e. omega arith)) (None (digit (get_or l 1 0)))))
       where
         None : (t : Bool) → (t && false) ≡ false
         None true = refl
@@ -214,40 +215,40 @@ pub record Leads (l : List ℕ) (i v : ℕ) : Type 0 where
 pub leads_none : (l : List ℕ) → (get_or l 0 0 ≡ 48 → ⊥) → Leads l 0 0
 leads_none l f = record { first = f; value = λ n. absurd (n refl) }
 
-module _ (sep : ℕ) (l : List ℕ) (i v : ℕ) (inv : first_read sep l ≡ read_from largest sep i v (drop i l)) where
+module _ (sep : ℕ) (l : List ℕ) (i v : ℕ) (inv : first_read sep l ≡ read_from most_number sep i v (drop i l)) where
   pub finish : (r : Result (ℕ × ℕ) ℕ) → length l ≤ i → r ≡ end_of i v → r ≡ first_read sep l
-  finish r h e = e ∙ sym (inv ∙ ap (read_from largest sep i v) (drop_of_length-le l h) ∙ from_none largest sep i v)
+  finish r h e = e ∙ sym (inv ∙ ap (read_from most_number sep i v) (drop_of_length-le l h) ∙ from_none most_number sep i v)
 
   module _ (lt : i < length l) where
-    here : first_read sep l ≡ read_from largest sep i v (get_or l i 0 ∷ drop (i + 1) l)
-    here = inv ∙ ap (read_from largest sep i v) (drop_step l i lt)
+    here : first_read sep l ≡ read_from most_number sep i v (get_or l i 0 ∷ drop (i + 1) l)
+    here = inv ∙ ap (read_from most_number sep i v) (drop_step l i lt)
 
     pub separator : (r : Result (ℕ × ℕ) ℕ) → get_or l i 0 ≡ sep → r ≡ end_of i v → r ≡ first_read sep l
-    separator r e f = f ∙ sym (here ∙ from_separator largest sep i v (get_or l i 0) _ e)
+    separator r e f = f ∙ sym (here ∙ from_separator most_number sep i v (get_or l i 0) _ e)
 
     pub low : get_or l i 0 < 48 → (get_or l i 0 ≡ sep → ⊥) → Err i ≡ first_read sep l
-    low h n = sym (here ∙ from_stop largest sep i v (get_or l i 0) _ n (rw (lt-leb 48 (get_or l i 0) h) refl))
+    low h n = sym (here ∙ from_stop most_number sep i v (get_or l i 0) _ n (rw (lt-leb 48 (get_or l i 0) h) refl))
 
     module _ (below : sep < 48) (h : 48 ≤ get_or l i 0) where
       other : get_or l i 0 ≡ sep → ⊥
       other e = absurd (omega arith)
 
       pub high : 57 < get_or l i 0 → Err i ≡ first_read sep l
-      high k = sym (here ∙ from_stop largest sep i v (get_or l i 0) _ other (rw (le-leb 48 (get_or l i 0) h, lt-leb (get_or l i 0) 57 k) refl))
+      high k = sym (here ∙ from_stop most_number sep i v (get_or l i 0) _ other (rw (le-leb 48 (get_or l i 0) h, lt-leb (get_or l i 0) 57 k) refl))
 
       module _ (k : get_or l i 0 ≤ 57) where
-        pub large : largest < v * 10 + (get_or l i 0 - 48) → Err i ≡ first_read sep l
+        pub large : most_number < v * 10 + (get_or l i 0 - 48) → Err i ≡ first_read sep l
         large m =
-            sym (here ∙ from_stop largest sep i v (get_or l i 0) _ other
-            (rw (le-leb 48 (get_or l i 0) h, le-leb (get_or l i 0) 57 k, lt-leb (v * 10 + (get_or l i 0 - 48)) largest m) (None (ltb 0 v || eqb i 0))))
+            sym (here ∙ from_stop most_number sep i v (get_or l i 0) _ other
+            (rw (le-leb 48 (get_or l i 0) h, le-leb (get_or l i 0) 57 k, lt-leb (v * 10 + (get_or l i 0 - 48)) most_number m) (None (ltb 0 v || eqb i 0))))
           where
             None : (t : Bool) → (t && false) ≡ false
             None true = refl
             None false = refl
 
         module _ (leads : Leads l i v) where
-          pub again : v * 10 + (get_or l i 0 - 48) ≤ largest → first_read sep l ≡ read_from largest sep (i + 1) (v * 10 + (get_or l i 0 - 48)) (drop (i + 1) l)
-          again m = here ∙ from_more largest sep i v (get_or l i 0) _ other (rw (le-leb 48 (get_or l i 0) h, le-leb (get_or l i 0) 57 k, le-leb (v * 10 + (get_or l i 0 - 48)) largest m) (both (eqb i 0) refl))
+          pub again : v * 10 + (get_or l i 0 - 48) ≤ most_number → first_read sep l ≡ read_from most_number sep (i + 1) (v * 10 + (get_or l i 0 - 48)) (drop (i + 1) l)
+          again m = here ∙ from_more most_number sep i v (get_or l i 0) _ other (rw (le-leb 48 (get_or l i 0) h, le-leb (get_or l i 0) 57 k, le-leb (v * 10 + (get_or l i 0 - 48)) most_number m) (both (eqb i 0) refl))
             where
               or_true : (t : Bool) → ((t || true) && true) ≡ true
               or_true true = refl

@@ -14,20 +14,21 @@ use lib.ListN.{length, get_or, length-append}
 use Rattle.sets.proofs.Truth.{and_l, and_r}
 use Rattle.text.specs.Lines.{printable}
 use Rattle.text.proofs.Spelled.{Lacks, AllLack, AllPrintable, weight}
-use Rattle.numbers.specs.Numbers.{digit, digits, largest, number_of, is_number, value_of, spell}
+use Rattle.layout.specs.Layout.{most_number}
+use Rattle.numbers.specs.Numbers.{digit, digits, number_of, is_number, value_of, spell}
 use Rattle.numbers.specs.Listed.{are_numbers}
 use Rattle.numbers.proofs.Spelling.{digit_of, spell_digit, spell_step, decimal_out, spelling_reads}
 
 -- ---- reading
 
-pub spell_number : (n : ℕ) → n ≤ largest → number_of (spell n) ≡ Some n
-spell_number n h = spelling_reads largest n h
+pub spell_number : (n : ℕ) → n ≤ most_number → number_of (spell n) ≡ Some n
+spell_number n h = spelling_reads most_number n h
 
-pub spell_is_number : (n : ℕ) → n ≤ largest → is_number (spell n) ≡ true
-spell_is_number n h = ap is_some (spelling_reads largest n h)
+pub spell_is_number : (n : ℕ) → n ≤ most_number → is_number (spell n) ≡ true
+spell_is_number n h = ap is_some (spelling_reads most_number n h)
 
-pub spell_value : (n : ℕ) → n ≤ largest → value_of (spell n) ≡ n
-spell_value n h = ap (λ (o : Option ℕ). unwrap_or o 0) (spelling_reads largest n h)
+pub spell_value : (n : ℕ) → n ≤ most_number → value_of (spell n) ≡ n
+spell_value n h = ap (λ (o : Option ℕ). unwrap_or o 0) (spelling_reads most_number n h)
 
 -- ---- bytes
 
@@ -103,12 +104,12 @@ pub spells_printable : (ns : List ℕ) → AllPrintable (map spell ns)
 spells_printable [] = tt
 spells_printable (n ∷ ns) = (spell_printable n, spells_printable ns)
 
-pub spells_numbers : (ns : List ℕ) → Under 65536 ns → are_numbers (map spell ns) ≡ true
+pub spells_numbers : (ns : List ℕ) → Under (most_number + 1) ns → are_numbers (map spell ns) ≡ true
 unfolding are_numbers
 spells_numbers [] u = refl
 spells_numbers (n ∷ ns) u = let l = u.0 in rw (spell_is_number n (omega arith)) (spells_numbers ns u.1)
 
-pub spells_values : (ns : List ℕ) → Under 65536 ns → map value_of (map spell ns) ≡ ns
+pub spells_values : (ns : List ℕ) → Under (most_number + 1) ns → map value_of (map spell ns) ≡ ns
 spells_values [] u = refl
 spells_values (n ∷ ns) u = let l = u.0 in ap₂ (λ (m : ℕ) (ms : List ℕ). m ∷ ms) (spell_value n (omega arith)) (spells_values ns u.1)
 

@@ -8,7 +8,8 @@ use Prim.Native.Nat.{ℕ}
 use native.Mathlib.Omega.{arith}
 use lib.ListN.{length}
 use Rattle.text.specs.Split.{first_part}
-use Rattle.numbers.specs.Numbers.{largest, is_number, value_of, first_number, first_stop, read_answer, first_read}
+use Rattle.layout.specs.Layout.{most_number}
+use Rattle.numbers.specs.Numbers.{is_number, value_of, first_number, first_stop, read_answer, first_read}
 use Rattle.numbers.specs.Stops.{StopSays, at_end, at_once, at_byte}
 use Rattle.numbers.proofs.Stops.{value_in, stop_in, stops}
 
@@ -37,9 +38,9 @@ module _ (sep : ℕ) (bs : List ℕ) (r : Result (ℕ × ℕ) ℕ) (given : r �
     ended_value = ap (λ (o : Option ℕ). unwrap_or o 0) read.0
 
     pub ended_stop : stop ≡ length (first_part sep bs)
-    ended_stop = read.1 ∙ at_length (first_number sep bs) (first_stop sep bs) (sym read.0) (stops largest (first_part sep bs))
+    ended_stop = read.1 ∙ at_length (first_number sep bs) (first_stop sep bs) (sym read.0) (stops most_number (first_part sep bs))
       where
-        at_length : (o : Option ℕ) (s : ℕ) → o ≡ Some n → StopSays largest (first_part sep bs) o s → s ≡ length (first_part sep bs)
+        at_length : (o : Option ℕ) (s : ℕ) → o ≡ Some n → StopSays most_number (first_part sep bs) o s → s ≡ length (first_part sep bs)
         at_length o s e at_end = refl
         at_length o s e (at_once f) = let z : ◌≡◌ {A = ℕ} 0 1 = cc in absurd (omega arith)
         at_length o s e (at_byte h f g) = let z : ◌≡◌ {A = ℕ} 0 1 = cc in absurd (omega arith)

@@ -3,6 +3,7 @@ use Rattle.std.specs.Prelude.{ℕ, zero, suc, ◌+◌, ◌-◌, ◌*◌, ◌/◌
 use Rattle.std.specs.Prelude.{Option, Some, None, is_some, unwrap_or, Result, Ok, Err}
 use Rattle.lists.specs.Leftmost.{leftmost}
 use Rattle.text.specs.Split.{first_part}
+use Rattle.layout.specs.Layout.{most_number}
 
 -- A digit's byte, 48 to 57.
 abbrev pub digit : ℕ → Bool
@@ -27,12 +28,8 @@ plain (b ∷ (d ∷ bs)) = not (eqb b 48)
 unfoldable pub decimal : ℕ → List ℕ → Option ℕ
 decimal most bs = cond (plain bs && digits bs && leb (value_from 0 bs) most) (Some (value_from 0 bs)) None
 
--- The largest number of document 01's texts.
-abbrev pub largest : ℕ
-largest = 65535
-
 abbrev pub number_of : List ℕ → Option ℕ
-number_of bs = decimal largest bs
+number_of bs = decimal most_number bs
 
 -- The bytes are a number; and which: the value that is meant only where they are one.
 abbrev pub is_number : List ℕ → Bool
@@ -47,10 +44,10 @@ stop_of most f = leftmost (λ i. not (is_some (decimal most (take (suc i) f)))) 
 
 -- What reading answers for the bytes before the first separator: the number and where reading stopped, or only that.
 abbrev pub first_number : ℕ → List ℕ → Option ℕ
-first_number separator bs = decimal largest (first_part separator bs)
+first_number separator bs = decimal most_number (first_part separator bs)
 
 abbrev pub first_stop : ℕ → List ℕ → ℕ
-first_stop separator bs = stop_of largest (first_part separator bs)
+first_stop separator bs = stop_of most_number (first_part separator bs)
 
 abbrev pub read_answer : Option ℕ → ℕ → Result (ℕ × ℕ) ℕ
 read_answer None stop = Err stop

@@ -3,6 +3,7 @@
 
 ghost use Rattle.std.specs.Prelude.{◌≡◌, [], length, get_or, ◌≤◌, ◌<◌};
 ghost use Rattle.text.specs.Split.{split};
+ghost use Rattle.layout.specs.Layout.{most_number};
 ghost use Rattle.numbers.specs.Numbers.{number_of, end_of, first_read};
 
 use fields::Fields;
@@ -10,7 +11,7 @@ use fields::Fields;
 // The answer at the end of a field of so many bytes.
 #[tactic(auto, using(crate::proofs::NumberLaws::end_kit))]
 fn at_end(size: usize, value: u32) -> Result<(u16, usize), usize>
-    requires { value ≤ 65535 }
+    requires { value ≤ most_number }
     ensures { result ≡ end_of size value }
 {
     if size == 0 {
@@ -51,7 +52,7 @@ fn read_digits(bytes: &[u8], separator: u8) -> Result<(u16, usize), usize>
             return Err(i);
         }
         value = value * 10 + u32::from(b - b'0');
-        if value > 65535 {
+        if value > layout::MOST_NUMBER {
             return Err(i);
         }
     }

@@ -1,7 +1,7 @@
 // The pivots that a search from the front would find, to see where they differ from those found backward.
 use crate::STEPS;
 use crate::settled::{Row, Settled};
-use places::{has, only};
+use random_inputs::{has, only};
 use trial::{get, put};
 
 impl Settled {

@@ -1,7 +1,7 @@
 // The beads that hold on each pair of steps.
 use crate::STEPS;
 use crate::states::{routes_from, states_from};
-use places::{LogRoom, PatternRoom, Rule, only};
+use random_inputs::{LogRoom, PatternRoom, Rule, only};
 
 // The beads on u and v, at [u][v].
 pub type Pairs = [[u16; STEPS]; STEPS];

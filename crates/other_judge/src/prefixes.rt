@@ -1,7 +1,7 @@
 // The prefixes that hold at each step.
 use crate::STEPS;
 use crate::pairs::Pairs;
-use places::only;
+use random_inputs::only;
 
 // No bead holds at step 0 alone. Filled by index: a place is made from those before it in the same array.
 pub fn settle_prefixes(steps: u16, pairs: &Pairs) -> [u16; STEPS] {

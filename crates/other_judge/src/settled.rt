@@ -2,7 +2,7 @@
 use crate::STEPS;
 use crate::pairs::{Pairs, settle_pairs};
 use crate::prefixes::settle_prefixes;
-use places::{LogRoom, PatternRoom, has};
+use random_inputs::{LogRoom, PatternRoom, has};
 use trial::{get, put};
 
 // A step's ten numbers: its prefixes, and the pivots where the whole pattern holds, else 0.

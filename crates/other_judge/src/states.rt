@@ -1,6 +1,6 @@
 // The states that the readings of the routes from a step reach.
 use crate::STEPS;
-use places::{LogRoom, PatternRoom, has};
+use random_inputs::{LogRoom, PatternRoom, has};
 use trial::{get, put};
 
 // 1 at each step to which a route leads from u, as one does to u itself, by no link; else 0.

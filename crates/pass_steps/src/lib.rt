@@ -1,5 +1,6 @@
 // A step of sixteen forward passes: its turn, the lanes that reach it, and how far the passes have to go.
-// Rooms are slices of at least so many numbers, as each contract says: an array, or a struct with the bound, would take fewer or be made anew at each call.
+// Rooms are slices of at least so many numbers, as each contract says: an array, or a struct with the bound, would take fewer or be made anew at
+// each call.
 #![tactic(auto)]
 
 ghost use Rattle.std.specs.Prelude.{◌≡◌, ◌+◌, ◌<◌, ◌≤◌, length};
@@ -14,14 +15,15 @@ ghost use Rattle.pass_steps.specs.PassSteps.{beginning_at};
 use entering::Bead;
 use log_links::Log;
 
-// What a pass is made of: a bead and its hopeful states, a log and for each step the last one that it has a link to, and for each step the
-// lanes that begin there, of the steps from `first` on and below `until`. What is asked of the hopeful states and of the last links stands at
-// the methods that look at them, and so does what is asked of the log and of the starting steps.
+// What a pass is made of: a bead and its hopeful states, a log and for each step its label set and the last one that it has a link to, and for each
+// step the lanes that begin there, of the steps from `first` on and below `until`. What is asked of the hopeful states and of the last links stands
+// at the methods that look at them, and so does what is asked of the log, of its label sets and of the starting steps.
 #[derive(Clone, Copy)]
 pub struct Pass<'a> {
     pub bead: Bead<'a>,
     pub hopeful: u16,
     pub log: &'a [u16],
+    pub labels: &'a [u16],
     pub last: &'a [u16],
     pub seeds: &'a [u16],
     pub first: usize,
@@ -45,13 +47,21 @@ impl<'a> Pass<'a> {
     #[tactic(auto, using(crate::proofs::AdvanceLaws::held_more))]
     pub fn advance(&self, x: usize, work: &mut [u16])
         requires laid { Laid self.now.log.now }
-        requires well_formed { WellFormed (labels_in self.now.bead.pattern.now) (log_of self.now.log.now) }
+        requires well_formed { WellFormed (labels_in self.now.bead.pattern.now) (log_of self.now.log.now self.now.labels.now) }
         requires x_bound { (x < steps_in self.now.log.now) × (self.now.until ≤ most_steps) × (most_steps ≤ length self.now.seeds.now) × (work_length ≤ length work.old) }
+        requires labels_long { most_steps ≤ length self.now.labels.now }
         requires held { HeldBy self.now x work.old }
         ensures { HeldBy self.now (x + 1) work.new }
     {
         let begin = self.beginning(x);
-        turning::turn(self.bead, Log::new(self.log), self.first, x, begin, work);
+        turning::turn(
+            self.bead,
+            Log::new(self.log, self.labels),
+            self.first,
+            x,
+            begin,
+            work,
+        );
     }
 
     // The lanes that reach the step x.

@@ -1,5 +1,6 @@
 // The pass of a bead in sixteen lanes: for each step the set of the lanes that reach it, SOME or ALL by the bead's rule.
-// Rooms are slices of at least so many numbers, as each contract says: an array, or a struct with the bound, would take fewer or be made anew at each call.
+// Rooms are slices of at least so many numbers, as each contract says: an array, or a struct with the bound, would take fewer or be made anew at
+// each call.
 #![tactic(auto)]
 
 ghost use Rattle.std.specs.Prelude.{◌<◌, ◌≤◌, length};
@@ -16,6 +17,7 @@ fn pass_turns(pass: &Pass, work: &mut [u16], found: &mut [u16])
     requires last_to { LastBy pass.now }
     requires hopeful_set { HopefulBy pass.now }
     requires first_lt_until { (pass.now.first < pass.now.until) × (pass.now.until ≤ steps_in pass.now.log.now) }
+    requires labels_long { most_steps ≤ length pass.now.labels.now }
     requires in_bounds { (most_steps ≤ length pass.now.seeds.now) × (most_steps ≤ length pass.now.last.now) × (work_length ≤ length work.old) × (most_steps ≤ length found.old) }
     requires found_by { FoundBy pass.now pass.now.first found.old }
     ensures { FoundOf pass.now found.new }
@@ -38,6 +40,7 @@ pub fn pass(pass: &Pass, work: &mut [u16], found: &mut [u16])
     requires last_to { LastBy pass.now }
     requires hopeful_set { HopefulBy pass.now }
     requires until_bound { pass.now.until ≤ steps_in pass.now.log.now }
+    requires labels_long { most_steps ≤ length pass.now.labels.now }
     requires in_bounds { (most_steps ≤ length pass.now.seeds.now) × (most_steps ≤ length pass.now.last.now) × (work_length ≤ length work.old) × (most_steps ≤ length found.old) }
     ensures { FoundOf pass.now found.new }
 {

@@ -1,7 +1,6 @@
 // The judge on a log and on a second one that is alike in the past of a step.
-use changed_logs::{Past, change_beyond, past_of};
 use judged_pairs::{Noise, Pair};
-use random_inputs::Links;
+use random_inputs::{Links, Past, change_beyond, past_of};
 use std::fmt;
 use std::num::Wrapping;
 use trial::Random;
@@ -56,7 +55,7 @@ impl Counts {
     fn count_row(&mut self, beads: u16, prefixes: u16) {
         self.rows += 1;
         self.with_prefix += u64::from(prefixes != 0);
-        self.whole += u64::from(places::has(prefixes, beads.wrapping_sub(1)));
+        self.whole += u64::from(random_inputs::has(prefixes, beads.wrapping_sub(1)));
     }
 }
 

@@ -10,9 +10,9 @@ use Rattle.text.proofs.WalkLaws.{walk_nil, walk_cons}
 use Rattle.text.specs.Split.{split}
 use Rattle.text.specs.Lines.{TextLine, lines_of, whole}
 use Rattle.text.specs.Walk.{Judged, refused, passed, accepted, faulty, proceed, walk, bad_size, read_text}
-use Rattle.layout.specs.Layout.{most_line, most_pattern_text}
+use Rattle.layout.specs.Layout.{most_line, most_pattern_text, most_labels}
 use Rattle.pattern_header.specs.Header.{is_header, label_count}
-use Rattle.pattern_order.specs.Row.{disordered, misruled}
+use Rattle.pattern_order.specs.StateLine.{disordered, misruled}
 use Rattle.pattern_row.specs.Fields.{row_of, malformed}
 use Rattle.pattern_store.specs.Format.{Known, judge_header, judge_row, judge_line, pattern_format}
 use Rattle.pattern_store.proofs.RowsLaws.{Sound, sound_none}
@@ -61,7 +61,7 @@ passed_lines (l ∷ ls) n k t h s e =
 -- What the rows of an accepted text satisfy, and how many labels there are.
 pub record Accepted (k : Known) : Type 0 where
   pub sound : Sound k.labels k.rows
-  pub few : k.labels ≤ 16
+  pub few : k.labels ≤ most_labels
 
 pub lines_accepted : (text : List ℕ) (k : Known) → read_text pattern_format text ≡ accepted k → Accepted k
 lines_accepted text k e = size (bad_size most_pattern_text text) e

@@ -15,8 +15,8 @@ use Rattle.answer.specs.Answers.{accepted_with, refused_at, refused_in}
 use Rattle.std.specs.Prelude.{Result, Ok, Err}
 use Rattle.text.specs.Walk.{Outcome, accepted, faulty, walk, read_text}
 use Rattle.sets.specs.Sets.{set_of}
-use Rattle.layout.specs.Layout.{pattern_length}
-use Rattle.pattern_order.specs.Row.{Row}
+use Rattle.layout.specs.Layout.{pattern_length, states_at, accepting_at, sets_begin, most_states}
+use Rattle.pattern_order.specs.StateLine.{StateLine}
 use Rattle.pattern_store.specs.Next.{states_of}
 use Rattle.pattern_store.specs.Format.{Known, judge_next, pattern_format, conclude, pattern_text}
 use Rattle.pattern_store.specs.Buffer.{bead_count, rule_of_bead, accepting_of, next_of, buffer_of}
@@ -26,7 +26,7 @@ use Rattle.answer.proofs.FaultLaws.{Passed, answer_refused as first_answer, answ
 use Rattle.pattern_line.specs.Answers.{refusal_number}
 use Rattle.pattern_late.specs.Late.{Bounded, late_faults, late_said}
 use Rattle.pattern_walk.specs.Reading.{HeaderRead, FirstTold, FirstRead, LinesRead, RowsTold, RowsRead}
-use Rattle.pattern.specs.Reading.{text_said, counted, concluded, beads_of, TextRead}
+use Rattle.pattern.specs.inner.Reading.{text_said, counted, concluded, beads_of, TextRead}
 use Rattle.pattern_line.specs.declared.refusals.Refusal.{Refusal}
 use Rattle.text.specs.declared.faults.Fault.{Fault}
 use Rattle.pattern_store.proofs.BufferLaws.{Holds, buffer_holds, holds_buffer}
@@ -70,7 +70,7 @@ pub ruleset conclude_kit = (beads_inside, conclude_none, conclude_fault, conclud
 
 -- ---- the text
 
-beads_none : (rows : List Row) → length rows ≡ 0 → bead_count rows ≡ 0
+beads_none : (rows : List StateLine) → length rows ≡ 0 → bead_count rows ≡ 0
 unfolding bead_count
 beads_none [] e = refl
 beads_none (r ∷ rows) e = absurd (omega arith)
@@ -162,12 +162,12 @@ zeros_hold = holds_buffer (record { labels = 0; rows = [] }) (replicate pattern_
   labels = get_or-replicate {A = ℕ} pattern_length 0 0 0 (omega arith);
   beads = get_or-replicate {A = ℕ} pattern_length 1 0 0 (omega arith);
   rules = λ j h. get_or-replicate {A = ℕ} pattern_length (2 + j) 0 0 (omega arith);
-  states = λ j h. get_or-replicate {A = ℕ} pattern_length (10 + j) 0 0 (omega arith);
-  finals = λ j h. get_or-replicate {A = ℕ} pattern_length (18 + j) 0 0 (omega arith) ∙ none_final (j + 1);
-  nexts = λ i h. get_or-replicate {A = ℕ} pattern_length (26 + i) 0 0 (omega arith);
+  states = λ j h. get_or-replicate {A = ℕ} pattern_length (states_at j) 0 0 (omega arith);
+  finals = λ j h. get_or-replicate {A = ℕ} pattern_length (accepting_at j) 0 0 (omega arith) ∙ none_final (j + 1);
+  nexts = λ i h. get_or-replicate {A = ℕ} pattern_length (sets_begin + i) 0 0 (omega arith);
 })
   where
-    none_final : (b : ℕ) → 0 ≡ set_of 16 (accepting_of [] b)
+    none_final : (b : ℕ) → 0 ≡ set_of most_states (accepting_of [] b)
     none_final b = refl
 
 faulty_said : (o : Outcome Known) (n line : ℕ) → faulty n line ≡ beads_of o → o ≡ faulty n line

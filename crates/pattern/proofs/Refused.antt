@@ -1,5 +1,5 @@
--- What a call of the pattern reader promises (`pattern_promise`); and that it refuses with a number and a line just where document 01's list gives them
--- (`pattern_refused`), leaves the room as it was then, and accepts just where no entry applies.
+-- What a call of the pattern reader promises (`pattern_promise`); and that it refuses with a number and a line just where document 01's list gives
+-- them (`pattern_refused`), leaves the room as it was then, and accepts just where no entry applies.
 -- Assumes nothing.
 use Prim.Native.Nat.{ℕ, ◌≤◌, ◌<◌}
 use mathlib.Core.Path.{◌≡◌, refl, sym, ap, ◌∙◌, subst}
@@ -20,7 +20,7 @@ use Rattle.text.specs.FirstBad.{AllPass, done, next as next_line, FirstBad}
 use Rattle.text.proofs.FirstBadLaws.{walk_accepts, walk_refuses, Numbered, bad_number, size_faulty, size_passes}
 use Rattle.layout.specs.Layout.{most_pattern_text, most_line, pattern_length}
 use Rattle.pattern_header.specs.Header.{is_header, label_count}
-use Rattle.pattern_order.specs.Row.{Row, disordered, misruled}
+use Rattle.pattern_order.specs.StateLine.{StateLine, disordered, misruled}
 use Rattle.pattern_row.specs.Fields.{row_of, malformed}
 use Rattle.pattern_store.specs.Next.{strays, ambiguous}
 use Rattle.pattern_store.specs.Format.{Known, judge_row, judge_line, judge_next, pattern_format, conclude, pattern_text}
@@ -56,7 +56,7 @@ line_numbered k n l =
     go true true false t j r = λ z. absurd (omega arith)
     go true false c t j r = r
 
-next_numbered : (rows : List Row) (k : Known) (n : ℕ) (r : Row) → Numbered (judge_next rows k n r)
+next_numbered : (rows : List StateLine) (k : Known) (n : ℕ) (r : StateLine) → Numbered (judge_next rows k n r)
 unfolding Numbered
 next_numbered rows k n r = go (strays rows r) (ambiguous r)
   where
@@ -67,7 +67,7 @@ next_numbered rows k n r = go (strays rows r) (ambiguous r)
 
 -- ---- 15 and 16 change nothing that is known
 
-next_known : (rows : List Row) (k t : Known) (n : ℕ) (r : Row) → judge_next rows k n r ≡ passed t → k ≡ t
+next_known : (rows : List StateLine) (k t : Known) (n : ℕ) (r : StateLine) → judge_next rows k n r ≡ passed t → k ≡ t
 next_known rows k t n r e = go (strays rows r) (ambiguous r) e
   where
     go : (a b : Bool) → cond a (refused 15) (cond b (refused 16) (passed k)) ≡ passed t → k ≡ t
@@ -75,7 +75,7 @@ next_known rows k t n r e = go (strays rows r) (ambiguous r) e
     go false true q = let z : ◌≡◌ {A = ℕ} 0 1 = cc in absurd (omega arith)
     go false false q = cc
 
-nexts_known : (rows : List Row) {k t : Known} {n : ℕ} {ls : List Row} → AllPass (judge_next rows) k n ls t → k ≡ t
+nexts_known : (rows : List StateLine) {k t : Known} {n : ℕ} {ls : List StateLine} → AllPass (judge_next rows) k n ls t → k ≡ t
 nexts_known rows done = refl
 nexts_known rows (next_line {s = k} {t = u} {n = n} {l = r} e rest) = next_known rows k u n r e ∙ nexts_known rows rest
 

@@ -1,4 +1,4 @@
-pub mod Reading
 pub mod Answer
 pub mod Refused
 pub mod Promise
+pub mod inner

@@ -3,7 +3,7 @@ ghost use Rattle.std.specs.Prelude.{◌≡◌, []};
 ghost use Rattle.pattern_store.specs.Buffer.{buffer_of};
 ghost use Rattle.pattern_late.specs.Late.{Bounded};
 ghost use Rattle.pattern_walk.specs.Reading.{HeaderRead};
-ghost use Rattle.pattern.specs.Reading.{text_said, concluded, TextRead};
+ghost use Rattle.pattern.specs.inner.Reading.{text_said, concluded, TextRead};
 
 use pattern_late::find_late;
 use pattern_line::refusals::Refusal;

@@ -1,4 +1,5 @@
 pub mod Places
+pub mod Nexts
 pub mod OneNext
 pub mod Meaning
 pub mod Nested

@@ -8,10 +8,11 @@ use native.Mathlib.Omega.{arith}
 use borrow.Author.Tests.{lt-ltb, le-ltb, ltb-true, ltb-false}
 use lib.Dec.{T, eqb, leb, ltb, leb→le, le→leb, ltb→lt, lt→ltb, eqb→eq, eqb_refl, T_not, not_T}
 use lib.ListN.{length}
+use Rattle.rules.specs.Rules.{is_rule, needs_one_next}
 use Rattle.lists.specs.Places.{at}
 use Rattle.sets.specs.Sets.{within, single}
 use Rattle.sets.proofs.Truth.{or_l, or_r, or_cases, and_i, and_l, and_r, decide}
-use Rattle.layout.specs.Layout.{most_labels, most_beads, most_states, rule_at, states_at, accepting_at, next_at, pattern_length}
+use Rattle.layout.specs.Layout.{most_labels, most_beads, most_states, rule_at, states_at, accepting_at, next_at, pattern_length, all_sets, sets_a_state, sets_a_bead}
 use Rattle.pattern_buffer.specs.Meaning.{labels_in, beads_in}
 use Rattle.pattern_buffer.specs.Valid.{between, turn_ok, bead_ok, beads_ok, next_ok, nexts_ok, is_pattern}
 use Rattle.sets.proofs.Below.{all_out, all_in}
@@ -31,8 +32,7 @@ is_zero n e = rw e (eqb_refl 0)
 
 -- The bead at place j is there.
 pub record Bead (b : List ℕ) (j : ℕ) : Type 0 where
-  pub rule_low : 1 ≤ at b (rule_at j)
-  pub rule_high : at b (rule_at j) ≤ 2
+  pub rule : T (is_rule (at b (rule_at j)))
   pub turn : 0 < j → at b (rule_at j) ≡ at b (rule_at (j - 1)) → ⊥
   pub some_state : 1 ≤ at b (states_at j)
   pub states_most : at b (states_at j) ≤ most_states
@@ -69,7 +69,7 @@ module _ (b : List ℕ) (j : ℕ) where
           (not_T same_rule (λ e. f (let n = later s in omega arith) (eqb→eq (at b (rule_at j)) (at b (rule_at (j - 1))) e)))
 
   abbrev rule_test : Bool
-  rule_test = between 1 2 (at b (rule_at j))
+  rule_test = is_rule (at b (rule_at j))
 
   abbrev states_test : Bool
   states_test = between 1 most_states (at b (states_at j))
@@ -79,13 +79,11 @@ module _ (b : List ℕ) (j : ℕ) where
 
   bead_parts : T (rule_test && (turn_ok b j && (states_test && accepting_test))) → Bead b j
   bead_parts t =
-      let r = between_out 1 2 (at b (rule_at j)) (and_l rule_test (turn_ok b j && (states_test && accepting_test)) t) in
       let t2 = and_r rule_test (turn_ok b j && (states_test && accepting_test)) t in
       let t3 = and_r (turn_ok b j) (states_test && accepting_test) t2 in
       let s = between_out 1 most_states (at b (states_at j)) (and_l states_test accepting_test t3) in
       record {
-        rule_low = r.0;
-        rule_high = r.1;
+        rule = and_l rule_test (turn_ok b j && (states_test && accepting_test)) t;
         turn = turn_out (and_l (turn_ok b j) (states_test && accepting_test) t2);
         some_state = s.0;
         states_most = s.1;
@@ -94,7 +92,7 @@ module _ (b : List ℕ) (j : ℕ) where
 
   bead_joined : Bead b j → T (rule_test && (turn_ok b j && (states_test && accepting_test)))
   bead_joined g =
-      and_i rule_test (turn_ok b j && (states_test && accepting_test)) (between_in 1 2 (at b (rule_at j)) g.rule_low g.rule_high)
+      and_i rule_test (turn_ok b j && (states_test && accepting_test)) g.rule
       (and_i (turn_ok b j) (states_test && accepting_test) (turn_in g.turn)
       (and_i states_test accepting_test (between_in 1 most_states (at b (states_at j)) g.some_state g.states_most)
       (lt→ltb (at b (accepting_at j)) (2 ^ at b (states_at j)) g.accepting)))
@@ -143,35 +141,35 @@ module _ (b : List ℕ) (j : ℕ) where
 -- The next set of a state and a label that are there.
 pub record Next (b : List ℕ) (j q a : ℕ) : Type 0 where
   pub inside : at b (next_at j q a) < 2 ^ at b (states_at j)
-  pub one : at b (rule_at j) ≡ 2 → T (single 16 (at b (next_at j q a)))
+  pub one : T (needs_one_next (at b (rule_at j))) → T (single most_states (at b (next_at j q a)))
 
 module _ (b : List ℕ) (j q a : ℕ) where
   abbrev inside_test : Bool
   inside_test = within (at b (states_at j)) (at b (next_at j q a))
 
   abbrev one_test : Bool
-  one_test = single 16 (at b (next_at j q a))
+  one_test = single most_states (at b (next_at j q a))
 
-  abbrev all_rule : Bool
-  all_rule = eqb (at b (rule_at j)) 2
+  abbrev one_asked : Bool
+  one_asked = needs_one_next (at b (rule_at j))
 
-  next_parts : T (inside_test && (not all_rule || one_test)) → Next b j q a
+  next_parts : T (inside_test && (not one_asked || one_test)) → Next b j q a
   next_parts t = record {
-    inside = ltb→lt (at b (next_at j q a)) (2 ^ at b (states_at j)) (and_l inside_test (not all_rule || one_test) t);
-    one = λ e. go e (or_cases (not all_rule) one_test (and_r inside_test (not all_rule || one_test) t));
+    inside = ltb→lt (at b (next_at j q a)) (2 ^ at b (states_at j)) (and_l inside_test (not one_asked || one_test) t);
+    one = λ e. go e (or_cases (not one_asked) one_test (and_r inside_test (not one_asked || one_test) t));
   }
     where
-      go : at b (rule_at j) ≡ 2 → T (not all_rule) ⊎ T one_test → T one_test
-      go e (inl s) = absurd (T_not all_rule s (rw e (eqb_refl 2)))
+      go : T one_asked → T (not one_asked) ⊎ T one_test → T one_test
+      go e (inl s) = absurd (T_not one_asked s e)
       go e (inr s) = s
 
-  next_joined : Next b j q a → T (inside_test && (not all_rule || one_test))
+  next_joined : Next b j q a → T (inside_test && (not one_asked || one_test))
   next_joined n =
-      and_i inside_test (not all_rule || one_test) (lt→ltb (at b (next_at j q a)) (2 ^ at b (states_at j)) n.inside) (go (decide all_rule))
+      and_i inside_test (not one_asked || one_test) (lt→ltb (at b (next_at j q a)) (2 ^ at b (states_at j)) n.inside) (go (decide one_asked))
     where
-      go : T all_rule ⊎ T (not all_rule) → T (not all_rule || one_test)
-      go (inl s) = or_r (not all_rule) one_test (n.one (eqb→eq (at b (rule_at j)) 2 s))
-      go (inr s) = or_l (not all_rule) one_test s
+      go : T one_asked ⊎ T (not one_asked) → T (not one_asked || one_test)
+      go (inl s) = or_r (not one_asked) one_test (n.one s)
+      go (inr s) = or_l (not one_asked) one_test s
 
   pub next_out : q < at b (states_at j) → a < labels_in b → T (next_ok b j q a) → Next b j q a
   next_out h k t = next_parts (rw (lt-ltb q (at b (states_at j)) h, lt-ltb a (labels_in b) k) at t)
@@ -206,7 +204,7 @@ pub record Passes (b : List ℕ) : Type 0 where
 
 module _ (b : List ℕ) where
   abbrev nth_next : ℕ → Bool
-  nth_next i = next_ok b (i / 256) (i / 16 % 16) (i % 16)
+  nth_next i = next_ok b (i / sets_a_bead) (i / sets_a_state % most_states) (i % sets_a_state)
 
   abbrev labels_test : Bool
   labels_test = between 1 most_labels (labels_in b)
@@ -231,16 +229,16 @@ module _ (b : List ℕ) where
         labels_most = l.1;
         some_bead = n.0;
         beads_most = n.1;
-        beads = all_out 8 (bead_ok b) (and_l (beads_ok b) (nexts_ok b) t4);
-        nexts = λ j q a h k l. turned j q a h k l (all_out 2048 nth_next (and_r (beads_ok b) (nexts_ok b) t4));
+        beads = all_out most_beads (bead_ok b) (and_l (beads_ok b) (nexts_ok b) t4);
+        nexts = λ j q a h k l. turned j q a h k l (all_out all_sets nth_next (and_r (beads_ok b) (nexts_ok b) t4));
       }
     where
-      turned : (j q a : ℕ) → j < most_beads → q < most_states → a < most_labels → ((i : ℕ) → i < 2048 → T (nth_next i)) → T (next_ok b j q a)
+      turned : (j q a : ℕ) → j < most_beads → q < most_states → a < most_labels → ((i : ℕ) → i < all_sets → T (nth_next i)) → T (next_ok b j q a)
       turned j q a h k l f =
-          let i : ℕ = 256 * j + 16 * q + a in
-          let e : i / 256 ≡ j = omega arith in
-          let d : i / 16 % 16 ≡ q = omega arith in
-          let m : i % 16 ≡ a = omega arith in
+          let i : ℕ = sets_a_bead * j + sets_a_state * q + a in
+          let e : i / sets_a_bead ≡ j = omega arith in
+          let d : i / sets_a_state % most_states ≡ q = omega arith in
+          let m : i % sets_a_state ≡ a = omega arith in
           rw (e, d, m) at (f i (omega arith))
 
   pub passes_in : Passes b → T (is_pattern b)
@@ -249,8 +247,8 @@ module _ (b : List ℕ) where
       and_i (leb pattern_length (length b)) (labels_test && (beads_test && tables_test)) (le→leb pattern_length (length b) p.long)
       (and_i labels_test (beads_test && tables_test) (between_in 1 most_labels (labels_in b) p.some_label p.labels_most)
       (and_i beads_test tables_test (between_in 1 most_beads (beads_in b) p.some_bead p.beads_most)
-      (and_i (beads_ok b) (nexts_ok b) (all_in 8 (bead_ok b) p.beads)
-      (all_in 2048 nth_next (λ i h. p.nexts (i / 256) (i / 16 % 16) (i % 16) (omega arith) (omega arith) (omega arith))))))
+      (and_i (beads_ok b) (nexts_ok b) (all_in most_beads (bead_ok b) p.beads)
+      (all_in all_sets nth_next (λ i h. p.nexts (i / sets_a_bead) (i / sets_a_state % most_states) (i % sets_a_state) (omega arith) (omega arith) (omega arith))))))
 
 -- What a buffer that passes has: its beads, and their next sets.
 module _ (b : List ℕ) (p : Passes b) where

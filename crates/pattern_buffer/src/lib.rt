@@ -88,7 +88,8 @@ impl<'a> PatternNumbers<'a> {
         let states = self.states(j);
         let next = self.next(j, q, a);
         if q < usize::from(states) && a < self.labels() {
-            sets::within(next, states) && (self.rule(j) != layout::ALL || sets::single(next))
+            sets::within(next, states)
+                && (!rules::needs_one_next(self.rule(j)) || sets::single(next))
         } else {
             next == 0
         }
@@ -97,7 +98,7 @@ impl<'a> PatternNumbers<'a> {
     // The next sets of a state, one a label.
     fn state_nexts_ok(&self, j: usize, q: usize) -> bool
         requires { (j < most_beads) × (q < most_states) }
-        ensures { result ≡ all_below 16 (next_ok self.now j q) }
+        ensures { result ≡ all_below most_labels (next_ok self.now j q) }
     {
         (0..layout::MOST_LABELS).all(|a| self.next_ok(j, q, a))
     }
@@ -105,12 +106,12 @@ impl<'a> PatternNumbers<'a> {
     // Those of a bead.
     fn bead_nexts_ok(&self, j: usize) -> bool
         requires { j < most_beads }
-        ensures { result ≡ all_below 16 (λ q. all_below 16 (next_ok self.now j q)) }
+        ensures { result ≡ all_below most_states (λ q. all_below most_labels (next_ok self.now j q)) }
     {
         (0..layout::MOST_STATES).all(|q| self.state_nexts_ok(j, q))
     }
 
-    // All 2,048 next sets, bead by bead and state by state: no place is divided into its parts.
+    // All next sets, bead by bead and state by state: no place is divided into its parts.
     pub fn nexts_ok(&self) -> bool
         ensures { result ≡ nexts_ok self.now }
     {

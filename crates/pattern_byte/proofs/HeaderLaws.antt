@@ -10,6 +10,7 @@ use borrow.Author.Tests.{leb-true}
 use lib.Dec.{leb}
 use lib.ListN.{length, get_or, take, drop, length-drop, drop_of_length-le}
 use lib.Seq.{length-take-le}
+use Rattle.layout.specs.Layout.{most_line}
 use Rattle.text.specs.Split.{split, first_part}
 use Rattle.text.specs.Lines.{TextLine, last_line, as_lines, lines_of, printable}
 use Rattle.text.proofs.SplitLaws.{split_some, split_empty, first_short, Cut, uncut, cut, cut_of}
@@ -25,9 +26,9 @@ use Rattle.pattern_byte.specs.Header.{one_line_at, header_text_at}
 
 -- ---- how many lines
 
-no_newline : (bs : List ℕ) (in_fields : ℕ) → ranked_at 240 (record { bytes = bs; newline = false }) in_fields ≡ 0
+no_newline : (bs : List ℕ) (in_fields : ℕ) → ranked_at most_line (record { bytes = bs; newline = false }) in_fields ≡ 0
 unfolding ranked_at
-no_newline bs in_fields = go (leb (length bs) 240)
+no_newline bs in_fields = go (leb (length bs) most_line)
   where
     go : (a : Bool) → cond (a && (false && printable bs)) in_fields (cond (a && false) (unprintable_place bs) 0) ≡ 0
     go true = refl
@@ -47,7 +48,7 @@ two_none : (p q o : List ℕ) (ps : List (List ℕ)) → 0 ≡ one_line_at (as_l
 unfolding as_lines
 two_none p q o ps = refl
 
-one_asked : (p : List ℕ) → one_line_at (as_lines (p ∷ ([] ∷ []))) ≡ ranked_at 240 (get_or (as_lines (p ∷ ([] ∷ []))) 0 (record { bytes = []; newline = false })) (header_at (split 32 (get_or (as_lines (p ∷ ([] ∷ []))) 0 (record { bytes = []; newline = false })).bytes))
+one_asked : (p : List ℕ) → one_line_at (as_lines (p ∷ ([] ∷ []))) ≡ ranked_at most_line (get_or (as_lines (p ∷ ([] ∷ []))) 0 (record { bytes = []; newline = false })) (header_at (split 32 (get_or (as_lines (p ∷ ([] ∷ []))) 0 (record { bytes = []; newline = false })).bytes))
 unfolding as_lines
 one_asked p = refl
 
@@ -98,11 +99,11 @@ module _ (header : List ℕ) (n : ℕ) (given : n ≡ length (first_part 10 head
           further m l = omega arith
 
   module _ (one : n + 1 ≡ length header) where
-    asked : header_text_at header ≡ ranked_at 240 (line_at header 1) (header_at (split 32 (line_at header 1).bytes))
+    asked : header_text_at header ≡ ranked_at most_line (line_at header 1) (header_at (split 32 (line_at header 1).bytes))
     unfolding header_text_at
     asked = go (cut_of 10 header)
       where
-        go : Cut 10 header → one_line_at (lines_of header) ≡ ranked_at 240 (line_at header 1) (header_at (split 32 (line_at header 1).bytes))
+        go : Cut 10 header → one_line_at (lines_of header) ≡ ranked_at most_line (line_at header 1) (header_at (split 32 (line_at header 1).bytes))
         go (uncut f s) = let z = ap length f in absurd (omega arith)
         go (cut k i f s) =
             let z : n ≡ k = given ∙ ap length f ∙ length-take-le k header (omega arith) in
@@ -110,7 +111,7 @@ module _ (header : List ℕ) (n : ℕ) (given : n ≡ length (first_part 10 head
             = s ∙ ap (λ (m : List ℕ). take k header ∷ split 10 m) (drop_of_length-le header {i = suc k} (omega arith)) ∙ ap (λ (ps : List (List ℕ)). take k header ∷ ps) (split_empty 10) in
             rw t (one_asked (take k header))
 
-    read_so : pattern_byte header 12 1 ≡ ranked_at 240 (line_at header 1) (header_at (split 32 (line_at header 1).bytes))
+    read_so : pattern_byte header 12 1 ≡ ranked_at most_line (line_at header 1) (header_at (split 32 (line_at header 1).bytes))
     unfolding pattern_byte place_in
     read_so = refl
 
@@ -121,22 +122,22 @@ pub ruleset header_kit = (next_fits, not_one, one_line)
 
 -- ---- a header text's byte is at most 241
 
-line_most : (l : TextLine) → ranked_at 240 l (header_at (split 32 l.bytes)) ≤ 241
+line_most : (l : TextLine) → ranked_at most_line l (header_at (split 32 l.bytes)) ≤ most_line + 1
 unfolding ranked_at
-line_most l = go (leb (length l.bytes) 240) refl l.newline (printable l.bytes)
+line_most l = go (leb (length l.bytes) most_line) refl l.newline (printable l.bytes)
   where
-    go : (a : Bool) → leb (length l.bytes) 240 ≡ a → (b c : Bool)
-        → cond (a && (b && c)) (header_at (split 32 l.bytes)) (cond (a && b) (unprintable_place l.bytes) 0) ≤ 241
-    go true e true true = let h = leb-true (length l.bytes) 240 e in let m = header_most l.bytes in omega arith
-    go true e true false = let h = leb-true (length l.bytes) 240 e in let m = unprintable_most l.bytes in omega arith
+    go : (a : Bool) → leb (length l.bytes) most_line ≡ a → (b c : Bool)
+        → cond (a && (b && c)) (header_at (split 32 l.bytes)) (cond (a && b) (unprintable_place l.bytes) 0) ≤ most_line + 1
+    go true e true true = let h = leb-true (length l.bytes) most_line e in let m = header_most l.bytes in omega arith
+    go true e true false = let h = leb-true (length l.bytes) most_line e in let m = unprintable_most l.bytes in omega arith
     go true e false c = omega arith
     go false e b c = omega arith
 
-pub header_text_most : (header : List ℕ) → header_text_at header ≤ 241
+pub header_text_most : (header : List ℕ) → header_text_at header ≤ most_line + 1
 unfolding header_text_at
 header_text_most header = go (lines_of header)
   where
-    go : (ls : List TextLine) → one_line_at ls ≤ 241
+    go : (ls : List TextLine) → one_line_at ls ≤ most_line + 1
     go [] = omega arith
     go (l ∷ []) = line_most l
     go (l ∷ (m ∷ ls)) = omega arith

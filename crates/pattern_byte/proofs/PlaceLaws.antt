@@ -9,12 +9,13 @@ use borrow.Author.Tests.{lt-ltb, le-ltb, leb-true, ne_eqb}
 use lib.Dec.{eqb, leb, ltb}
 use lib.ListN.{length, take, drop}
 use Rattle.std.specs.Prelude.{Option, None, unwrap_or, Result, Ok, Err}
+use Rattle.layout.specs.Layout.{most_line}
 use Rattle.text.specs.Split.{split}
 use Rattle.text.specs.Lines.{TextLine, printable}
 use Rattle.line_places.specs.Place.{as_place, place_at, line_at, ranked_at, unprintable_place, found_line}
 use Rattle.line_places.proofs.PlaceLaws.{place_out, place_most}
 use Rattle.line_places.proofs.LineLaws.{ranked_broken, whole_ordered, whole_inside, ranked_whole, unprintable_most}
-use Rattle.pattern_order.specs.Row.{Row}
+use Rattle.pattern_order.specs.StateLine.{StateLine}
 use Rattle.pattern_row.specs.Fields.{row_of}
 use Rattle.pattern_store.specs.Next.{states_of}
 use Rattle.pattern_places.specs.Place.{header_at, malformed_at, disordered_at, straying_at, ambiguous_at, bead_wrong, state_wrong}
@@ -57,14 +58,14 @@ pub ruleset in_kit = (in_malformed, in_header, in_order, in_rule, in_straying, i
 
 -- ---- a line by its number
 
-module _ (text : List ℕ) (k n : ℕ) (r : Result (ℕ × ℕ) (Option ℕ)) (given : r ≡ found_line 240 text n) where
-  pub line_broken : (p : Option ℕ) → r ≡ Err p → p ≡ as_place (ranked_at 240 (line_at text n) (place_in text k n (line_at text n).bytes))
-  line_broken p e = ranked_broken 240 text n r given p (place_in text k n (line_at text n).bytes) e
+module _ (text : List ℕ) (k n : ℕ) (r : Result (ℕ × ℕ) (Option ℕ)) (given : r ≡ found_line most_line text n) where
+  pub line_broken : (p : Option ℕ) → r ≡ Err p → p ≡ as_place (ranked_at most_line (line_at text n) (place_in text k n (line_at text n).bytes))
+  line_broken p e = ranked_broken most_line text n r given p (place_in text k n (line_at text n).bytes) e
 
   module _ (x y : ℕ) (q : r ≡ Ok (x, y)) where
     pub line_whole : (v : Option ℕ) → v ≡ as_place (place_in text k n (take (y - x) (drop x text)))
-        → v ≡ as_place (ranked_at 240 (line_at text n) (place_in text k n (line_at text n).bytes))
-    line_whole v e = ranked_whole 240 text n r given x y q (place_in text k n) v e
+        → v ≡ as_place (ranked_at most_line (line_at text n) (place_in text k n (line_at text n).bytes))
+    line_whole v e = ranked_whole most_line text n r given x y q (place_in text k n) v e
 
 pub ruleset line_kit = (line_broken, whole_ordered, whole_inside, line_whole)
 
@@ -81,7 +82,7 @@ module _ (text bytes : List ℕ) (k n : ℕ) where
   at_most : (i : ℕ) → place_at fs i ≤ length bytes + 1
   at_most i = place_most bytes i
 
-  order_most : (before : List Row) → disordered_at before fs ≤ length bytes + 1
+  order_most : (before : List StateLine) → disordered_at before fs ≤ length bytes + 1
   unfolding disordered_at
   order_most before = either (bead_wrong before (row_of fs)) _ _ _ (at_most 0) (either (state_wrong before (row_of fs)) _ _ _ (at_most 2) (at_most 3))
 
@@ -98,19 +99,19 @@ module _ (text bytes : List ℕ) (k n : ℕ) where
       (either (eqb k 14) _ _ _ (at_most 1) (either (eqb k 15) _ _ _ (at_most _) (either (eqb k 16) _ _ _ (at_most _) (omega arith))))))
 
 module _ (text : List ℕ) (k n : ℕ) where
-  ranked_most : ranked_at 240 (line_at text n) (place_in text k n (line_at text n).bytes) ≤ 241
+  ranked_most : ranked_at most_line (line_at text n) (place_in text k n (line_at text n).bytes) ≤ most_line + 1
   unfolding ranked_at
-  ranked_most = go (line_at text n) (leb (length (line_at text n).bytes) 240) refl (line_at text n).newline (printable (line_at text n).bytes)
+  ranked_most = go (line_at text n) (leb (length (line_at text n).bytes) most_line) refl (line_at text n).newline (printable (line_at text n).bytes)
     where
-      go : (l : TextLine) (a : Bool) → leb (length l.bytes) 240 ≡ a → (b c : Bool)
-          → cond (a && (b && c)) (place_in text k n l.bytes) (cond (a && b) (unprintable_place l.bytes) 0) ≤ 241
-      go l true e true true = let h = leb-true (length l.bytes) 240 e in let m = place_in_most text l.bytes k n in omega arith
-      go l true e true false = let h = leb-true (length l.bytes) 240 e in let m = unprintable_most l.bytes in omega arith
+      go : (l : TextLine) (a : Bool) → leb (length l.bytes) most_line ≡ a → (b c : Bool)
+          → cond (a && (b && c)) (place_in text k n l.bytes) (cond (a && b) (unprintable_place l.bytes) 0) ≤ most_line + 1
+      go l true e true true = let h = leb-true (length l.bytes) most_line e in let m = place_in_most text l.bytes k n in omega arith
+      go l true e true false = let h = leb-true (length l.bytes) most_line e in let m = unprintable_most l.bytes in omega arith
       go l true e false c = omega arith
       go l false e b c = omega arith
 
   -- The byte fits 16 bits.
-  pub byte_fits : pattern_byte text k n ≤ 241
+  pub byte_fits : pattern_byte text k n ≤ most_line + 1
   unfolding pattern_byte
   byte_fits = either (ltb k 11) _ _ _ (omega arith) ranked_most
 
@@ -118,9 +119,9 @@ module _ (text : List ℕ) (k n : ℕ) where
   unfolding pattern_byte
   byte_none h = sym (rw (lt-ltb k 11 h) refl)
 
-  module _ (o : Option ℕ) (given : o ≡ as_place (ranked_at 240 (line_at text n) (place_in text k n (line_at text n).bytes))) (v : ℕ) (e : v ≡ unwrap_or o 0) where
-    value : v ≡ ranked_at 240 (line_at text n) (place_in text k n (line_at text n).bytes)
-    value = e ∙ ap (λ (p : Option ℕ). unwrap_or p 0) given ∙ place_out (ranked_at 240 (line_at text n) (place_in text k n (line_at text n).bytes))
+  module _ (o : Option ℕ) (given : o ≡ as_place (ranked_at most_line (line_at text n) (place_in text k n (line_at text n).bytes))) (v : ℕ) (e : v ≡ unwrap_or o 0) where
+    value : v ≡ ranked_at most_line (line_at text n) (place_in text k n (line_at text n).bytes)
+    value = e ∙ ap (λ (p : Option ℕ). unwrap_or p 0) given ∙ place_out (ranked_at most_line (line_at text n) (place_in text k n (line_at text n).bytes))
 
     pub byte_ranked : 11 ≤ k → v ≡ pattern_byte text k n
     unfolding pattern_byte

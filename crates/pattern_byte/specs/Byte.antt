@@ -5,7 +5,7 @@ use Rattle.text.specs.Split.{split}
 use Rattle.line_places.specs.Place.{lines_bytes, line_at, ranked_at}
 use Rattle.layout.specs.Layout.{most_line}
 use Rattle.pattern_header.specs.Header.{label_count}
-use Rattle.pattern_order.specs.Row.{Row}
+use Rattle.pattern_order.specs.StateLine.{StateLine}
 use Rattle.pattern_row.specs.Fields.{row_of}
 use Rattle.pattern_store.specs.Next.{states_of}
 use Rattle.pattern_places.specs.Place.{header_at, malformed_at, disordered_at, misruled_at, straying_at, ambiguous_at}
@@ -19,11 +19,11 @@ unfoldable pub labels_named : List ℕ → ℕ
 labels_named text = label_count (fields_at text 1)
 
 -- What the lines below the header say.
-unfoldable pub rows_below : List ℕ → List Row
+unfoldable pub rows_below : List ℕ → List StateLine
 rows_below text = map (λ bs. row_of (split 32 bs)) (drop 1 (lines_bytes text))
 
 -- The row of the line before the n-th, if that is below the header.
-unfoldable pub row_before : List ℕ → ℕ → List Row
+unfoldable pub row_before : List ℕ → ℕ → List StateLine
 row_before text n = cond (ltb n 3) [] (row_of (fields_at text (n - 1)) ∷ [])
 
 -- The place at fault in the n-th line, whose bytes these are, if it is whole. 13 in line 1 is: nothing after the header.

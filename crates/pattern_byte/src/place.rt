@@ -1,5 +1,6 @@
 // The place at fault in a line of a pattern text, by the refusal's number.
 ghost use Rattle.std.specs.Prelude.{◌≡◌};
+ghost use Rattle.layout.specs.Layout.{most_line};
 ghost use Rattle.line_places.specs.Place.{as_place, line_at, ranked_at};
 ghost use Rattle.pattern_byte.specs.Byte.{place_in};
 
@@ -29,7 +30,7 @@ fn place_in(text: &[u8], number: u16, line: usize, bytes: &[u8]) -> Option<usize
 // What makes the line not whole ranks before what is wrong in its fields.
 #[tactic(auto, using(crate::proofs::PlaceLaws::line_kit))]
 pub fn ranked_place(text: &[u8], number: u16, line: usize) -> Option<usize>
-    ensures { result ≡ as_place (ranked_at 240 (line_at text.now line) (place_in text.now number line (line_at text.now line).bytes)) }
+    ensures { result ≡ as_place (ranked_at most_line (line_at text.now line) (place_in text.now number line (line_at text.now line).bytes)) }
 {
     match inspect_line(text, line, layout::MOST_LINE) {
         Err(place) => place,

@@ -10,6 +10,8 @@ use borrow.Author.Tests.{lt-ltb, le-ltb, le-leb, ltb-true, ltb-false, leb-true, 
 use lib.Dec.{eqb, ltb, leb}
 use lib.ListN.{length, get_or, take, drop, length-drop}
 use lib.Seq.{get_or-drop}
+use Rattle.rules.specs.Rules.{is_rule, needs_one_next}
+use Rattle.layout.specs.Layout.{most_labels, most_beads, most_states}
 use Rattle.lists.proofs.LeftmostLaws.{clash}
 use Rattle.sets.specs.Sets.{within, single}
 use Rattle.fields.specs.Fields.{same_bytes}
@@ -20,7 +22,7 @@ use Rattle.line_places.specs.Place.{place_where}
 use Rattle.line_places.proofs.FaultLaws.{no_field}
 use Rattle.pattern_header.specs.Header.{columns, same_fields, is_name, are_names, among, distinct, is_header}
 use Rattle.pattern_header.proofs.HeaderLaws.{columns_by_field}
-use Rattle.pattern_order.specs.Row.{Row, follows_last, disordered, breaks_turns, misruled}
+use Rattle.pattern_order.specs.StateLine.{StateLine, follows_last, disordered, breaks_turns, misruled}
 use Rattle.pattern_faults.specs.Before.{Last, none, last}
 use Rattle.pattern_row.specs.Fields.{row_of, malformed}
 use Rattle.pattern_store.specs.Next.{states_of, all_within, all_single, strays, ambiguous}
@@ -147,7 +149,7 @@ module _ (fs : List (List ℕ)) where
   column_at i = same_bytes (get_or fs i []) (get_or columns i [])
 
   abbrev few : Bool
-  few = leb (length (drop 4 fs)) 16
+  few = leb (length (drop 4 fs)) most_labels
 
   abbrev named : Bool
   named = are_names (drop 4 fs) && distinct (drop 4 fs)
@@ -178,19 +180,19 @@ module _ (fs : List (List ℕ)) where
           (and_right (same_fields (take 4 fs) columns) (leb 1 (length (drop 4 fs)) && (few && named)) e)
 
       go : (t : Bool) → ltb i 4 ≡ t
-          → cond (ltb i 4) (not (column_at i)) (not (is_name (get_or fs i [])) || (among (get_or fs i []) (labels_before fs i) || not (ltb i 20))) ≡ false
+          → cond (ltb i 4) (not (column_at i)) (not (is_name (get_or fs i [])) || (among (get_or fs i []) (labels_before fs i) || not (ltb i (4 + most_labels)))) ≡ false
       go true p =
           rw (p, column_right (and_left (same_fields (take 4 fs) columns) (leb 1 (length (drop 4 fs)) && (few && named)) e) i (ltb-true i 4 p)) refl
       go false p =
           let low = ltb-false i 4 p in
-          let many = leb-true (length (drop 4 fs)) 16 (and_left few named labels) in
+          let many = leb-true (length (drop 4 fs)) most_labels (and_left few named labels) in
           let place = front_in fs i low h in
           let is = from_front fs i low in
           let name = each [] is_name are_names names_none names_first (drop 4 fs) (i - 4) place (and_left (are_names (drop 4 fs)) (distinct (drop 4 fs)) (and_right few named labels)) in
           let once = distinct_before (drop 4 fs) (i - 4) place (and_right (are_names (drop 4 fs)) (distinct (drop 4 fs)) (and_right few named labels)) in
           let name' = subst (λ (f : List ℕ). is_name f ≡ true) is name in
           let once' = subst (λ (f : List ℕ). among f (labels_before fs i) ≡ false) is once in
-          rw (p, name', once', lt-ltb i 20 (omega arith)) refl
+          rw (p, name', once', lt-ltb i (4 + most_labels) (omega arith)) refl
 
   -- A wrong name makes it no header.
   pub name_refuses : (i : ℕ) → i < length fs → wrong_name fs i ≡ true → is_header fs ≡ false
@@ -201,34 +203,34 @@ module _ (fs : List (List ℕ)) where
     unfolding wrong_name
     right_column i h k = not-false (column_at i) (sym (rw (lt-ltb i 4 k) refl) ∙ right i h)
 
-    right_label : (i : ℕ) → i < length fs → 4 ≤ i → (not (is_name (get_or fs i [])) || (among (get_or fs i []) (labels_before fs i) || not (ltb i 20))) ≡ false
+    right_label : (i : ℕ) → i < length fs → 4 ≤ i → (not (is_name (get_or fs i [])) || (among (get_or fs i []) (labels_before fs i) || not (ltb i (4 + most_labels)))) ≡ false
     unfolding wrong_name
     right_label i h k = sym (rw (le-ltb i 4 k) refl) ∙ right i h
 
-    right_few : length fs ≤ 20
-    right_few = go (ltb 20 (length fs)) refl
+    right_few : length fs ≤ (4 + most_labels)
+    right_few = go (ltb (4 + most_labels) (length fs)) refl
       where
-        go : (t : Bool) → ltb 20 (length fs) ≡ t → length fs ≤ 20
+        go : (t : Bool) → ltb (4 + most_labels) (length fs) ≡ t → length fs ≤ (4 + most_labels)
         go true p =
-            let l = right_label 20 (ltb-true 20 (length fs) p) (omega arith) in
-            let z = or_right (among (get_or fs 20 []) (labels_before fs 20)) true (or_right (not (is_name (get_or fs 20 []))) (among (get_or fs 20 []) (labels_before fs 20) || true) l) in
+            let l = right_label (4 + most_labels) (ltb-true (4 + most_labels) (length fs) p) (omega arith) in
+            let z = or_right (among (get_or fs (4 + most_labels) []) (labels_before fs (4 + most_labels))) true (or_right (not (is_name (get_or fs (4 + most_labels) []))) (among (get_or fs (4 + most_labels) []) (labels_before fs (4 + most_labels)) || true) l) in
             clash true refl z
-        go false p = ltb-false 20 (length fs) p
+        go false p = ltb-false (4 + most_labels) (length fs) p
 
     right_name : (j : ℕ) → j < length (drop 4 fs) → is_name (get_or (drop 4 fs) j []) ≡ true
     right_name j h =
         let l = right_label (4 + j) (behind_in fs j h) (omega arith) in
         ap is_name (behind fs j)
         ∙ not-false (is_name (get_or fs (4 + j) []))
-        (or_left (not (is_name (get_or fs (4 + j) []))) (among (get_or fs (4 + j) []) (labels_before fs (4 + j)) || not (ltb (4 + j) 20)) l)
+        (or_left (not (is_name (get_or fs (4 + j) []))) (among (get_or fs (4 + j) []) (labels_before fs (4 + j)) || not (ltb (4 + j) (4 + most_labels))) l)
 
     right_once : (j : ℕ) → j < length (drop 4 fs) → among (get_or (drop 4 fs) j []) (take j (drop 4 fs)) ≡ false
     right_once j h =
         let l = right_label (4 + j) (behind_in fs j h) (omega arith) in
         let e : 4 + j - 4 ≡ j = omega arith in
         let a =
-        or_left (among (get_or fs (4 + j) []) (labels_before fs (4 + j))) (not (ltb (4 + j) 20))
-        (or_right (not (is_name (get_or fs (4 + j) []))) (among (get_or fs (4 + j) []) (labels_before fs (4 + j)) || not (ltb (4 + j) 20)) l) in
+        or_left (among (get_or fs (4 + j) []) (labels_before fs (4 + j))) (not (ltb (4 + j) (4 + most_labels)))
+        (or_right (not (is_name (get_or fs (4 + j) []))) (among (get_or fs (4 + j) []) (labels_before fs (4 + j)) || not (ltb (4 + j) (4 + most_labels))) l) in
         ap (λ (f : List ℕ). among f (take j (drop 4 fs))) (behind fs j)
         ∙ (ap (λ (k : ℕ). among (get_or fs (4 + j) []) (take k (drop 4 fs))) (sym e) ∙ a)
 
@@ -239,7 +241,7 @@ module _ (fs : List (List ℕ)) where
         rw (
           columns_right (λ i k. right_column i (omega arith) k),
           le-leb 1 (length (drop 4 fs)) (omega arith),
-          le-leb (length (drop 4 fs)) 16 (omega arith),
+          le-leb (length (drop 4 fs)) most_labels (omega arith),
           all [] is_name are_names names_none names_first (drop 4 fs) right_name,
           before_distinct (drop 4 fs) right_once,
         ) refl
@@ -315,47 +317,47 @@ module _ (c : ℕ) (fs : List (List ℕ)) where
 -- ---- 13: bead, state and final
 
 -- Only the last of the rows before counts.
-pub last_decides : (ps : List Row) (p r : Row) → follows_last (ps ++ (p ∷ [])) r ≡ follows_last (p ∷ []) r
+pub last_decides : (ps : List StateLine) (p r : StateLine) → follows_last (ps ++ (p ∷ [])) r ≡ follows_last (p ∷ []) r
 unfolding follows_last
 last_decides [] p r = refl
 last_decides (q ∷ []) p r = refl
 last_decides (q ∷ (s ∷ ps)) p r = last_decides (s ∷ ps) p r
 
-same_last : {before one : List Row} → Last before one → (r : Row) → follows_last before r ≡ follows_last one r
+same_last : {before one : List StateLine} → Last before one → (r : StateLine) → follows_last before r ≡ follows_last one r
 same_last none r = refl
-same_last (last ps p e) r = ap (λ (rows : List Row). follows_last rows r) e ∙ last_decides ps p r
+same_last (last ps p e) r = ap (λ (rows : List StateLine). follows_last rows r) e ∙ last_decides ps p r
 
-turns_decides : (ps : List Row) (p r : Row) → breaks_turns (ps ++ (p ∷ [])) r ≡ breaks_turns (p ∷ []) r
+turns_decides : (ps : List StateLine) (p r : StateLine) → breaks_turns (ps ++ (p ∷ [])) r ≡ breaks_turns (p ∷ []) r
 unfolding breaks_turns
 turns_decides [] p r = refl
 turns_decides (q ∷ []) p r = refl
 turns_decides (q ∷ (s ∷ ps)) p r = turns_decides (s ∷ ps) p r
 
-same_turns : {before one : List Row} → Last before one → (r : Row) → breaks_turns before r ≡ breaks_turns one r
+same_turns : {before one : List StateLine} → Last before one → (r : StateLine) → breaks_turns before r ≡ breaks_turns one r
 same_turns none r = refl
-same_turns (last ps p e) r = ap (λ (rows : List Row). breaks_turns rows r) e ∙ turns_decides ps p r
+same_turns (last ps p e) r = ap (λ (rows : List StateLine). breaks_turns rows r) e ∙ turns_decides ps p r
 
 -- 13 and 14 look at the last row only.
-pub order_same : {before one : List Row} → Last before one → (r : Row) → disordered before r ≡ disordered one r
-order_same l r = ap (λ (f : Bool). not f || (ltb 8 r.bead || (not (ltb r.state 16) || ltb 1 r.accepting))) (same_last l r)
+pub order_same : {before one : List StateLine} → Last before one → (r : StateLine) → disordered before r ≡ disordered one r
+order_same l r = ap (λ (f : Bool). not f || (ltb most_beads r.bead || (not (ltb r.state most_states) || ltb 1 r.accepting))) (same_last l r)
 
-pub rule_same : {before one : List Row} → Last before one → (r : Row) → misruled before r ≡ misruled one r
-rule_same l r = ap (λ (f : Bool). eqb r.rule 0 || f) (same_turns l r)
+pub rule_same : {before one : List StateLine} → Last before one → (r : StateLine) → misruled before r ≡ misruled one r
+rule_same l r = ap (λ (f : Bool). not (is_rule r.rule) || f) (same_turns l r)
 
-module _ (r : Row) where
+module _ (r : StateLine) where
   abbrev limits : Bool
-  limits = ltb 8 r.bead || (not (ltb r.state 16) || ltb 1 r.accepting)
+  limits = ltb most_beads r.bead || (not (ltb r.state most_states) || ltb 1 r.accepting)
 
   -- one after the other, as `disordered` has them
   by_follows : (f : Bool) → f ≡ false → (not f || limits) ≡ true
   by_follows f e = rw e refl
 
-  by_bead : (f : Bool) → ltb 8 r.bead ≡ true → (not f || limits) ≡ true
+  by_bead : (f : Bool) → ltb most_beads r.bead ≡ true → (not f || limits) ≡ true
   by_bead true e = rw e refl
   by_bead false e = refl
 
-  by_state : (f : Bool) → ltb r.state 16 ≡ false → (not f || limits) ≡ true
-  by_state true e = rw e (go (ltb 8 r.bead))
+  by_state : (f : Bool) → ltb r.state most_states ≡ false → (not f || limits) ≡ true
+  by_state true e = rw e (go (ltb most_beads r.bead))
     where
       go : (t : Bool) → (t || true) ≡ true
       go true = refl
@@ -374,7 +376,7 @@ module _ (r : Row) where
       go true = refl
       go false = refl
 
-  module _ (p : Row) where
+  module _ (p : StateLine) where
     abbrev here : Bool
     here = eqb r.bead p.bead
 
@@ -392,9 +394,9 @@ module _ (r : Row) where
 
     bead_causes : bead_wrong (p ∷ []) r ≡ true → (f : Bool) → follows_last (p ∷ []) r ≡ f → (not f || limits) ≡ true
     unfolding bead_wrong follows_last
-    bead_causes e f g = go (ltb 8 r.bead) refl here beyond refl refl e
+    bead_causes e f g = go (ltb most_beads r.bead) refl here beyond refl refl e
       where
-        go : (a : Bool) → ltb 8 r.bead ≡ a → (b c : Bool) → here ≡ b → beyond ≡ c → (a || not (b || c)) ≡ true → (not f || limits) ≡ true
+        go : (a : Bool) → ltb most_beads r.bead ≡ a → (b c : Bool) → here ≡ b → beyond ≡ c → (a || not (b || c)) ≡ true → (not f || limits) ≡ true
         go true x b c y z w = by_bead f x
         go false x true c y z w = clash false w refl
         go false x false true y z w = clash false w refl
@@ -402,9 +404,9 @@ module _ (r : Row) where
 
     state_causes : state_wrong (p ∷ []) r ≡ true → (f : Bool) → follows_last (p ∷ []) r ≡ f → (not f || limits) ≡ true
     unfolding state_wrong follows_last
-    state_causes e f g = go (ltb r.state 16) refl here next fresh refl refl refl e
+    state_causes e f g = go (ltb r.state most_states) refl here next fresh refl refl refl e
       where
-        go : (a : Bool) → ltb r.state 16 ≡ a → (b c d : Bool) → here ≡ b → next ≡ c → fresh ≡ d → (not a || cond b (not c) (not d)) ≡ true → (not f || limits) ≡ true
+        go : (a : Bool) → ltb r.state most_states ≡ a → (b c d : Bool) → here ≡ b → next ≡ c → fresh ≡ d → (not a || cond b (not c) (not d)) ≡ true → (not f || limits) ≡ true
         go false x b c d y z u w = by_state f x
         go true x true true d y z u w = clash false w refl
         go true x true false d y z u w = by_follows f (sym g ∙ rw (y, z, apart y) refl)
@@ -416,13 +418,13 @@ module _ (r : Row) where
             both false = refl
 
     order_right : bead_wrong (p ∷ []) r ≡ false → state_wrong (p ∷ []) r ≡ false
-        → (follows_last (p ∷ []) r ≡ true) × (ltb 8 r.bead ≡ false) × (ltb r.state 16 ≡ true)
+        → (follows_last (p ∷ []) r ≡ true) × (ltb most_beads r.bead ≡ false) × (ltb r.state most_states ≡ true)
     unfolding bead_wrong state_wrong follows_last
-    order_right e f = go (ltb 8 r.bead) refl here beyond refl refl e (ltb r.state 16) refl next fresh refl refl f
+    order_right e f = go (ltb most_beads r.bead) refl here beyond refl refl e (ltb r.state most_states) refl next fresh refl refl f
       where
-        go : (a : Bool) → ltb 8 r.bead ≡ a → (b c : Bool) → here ≡ b → beyond ≡ c → (a || not (b || c)) ≡ false
-            → (m : Bool) → ltb r.state 16 ≡ m → (n o : Bool) → next ≡ n → fresh ≡ o → (not m || cond b (not n) (not o)) ≡ false
-            → (((here && next) || (beyond && fresh)) ≡ true) × (ltb 8 r.bead ≡ false) × (ltb r.state 16 ≡ true)
+        go : (a : Bool) → ltb most_beads r.bead ≡ a → (b c : Bool) → here ≡ b → beyond ≡ c → (a || not (b || c)) ≡ false
+            → (m : Bool) → ltb r.state most_states ≡ m → (n o : Bool) → next ≡ n → fresh ≡ o → (not m || cond b (not n) (not o)) ≡ false
+            → (((here && next) || (beyond && fresh)) ≡ true) × (ltb most_beads r.bead ≡ false) × (ltb r.state most_states ≡ true)
         go true x b c y z w m q n o u v k = clash true refl w
         go false x false false y z w m q n o u v k = clash true refl w
         go false x true c y z w false q n o u v k = clash true refl k
@@ -432,7 +434,7 @@ module _ (r : Row) where
         go false x false true y z w true q n true u v k = (rw (y, z, v) refl, x, q)
         go false x false true y z w true q n false u v k = clash true refl k
 
-module _ {before one : List Row} (l : Last before one) (r : Row) where
+module _ {before one : List StateLine} (l : Last before one) (r : StateLine) where
   follows_same : follows_last one r ≡ follows_last before r
   follows_same = sym (same_last l r)
 
@@ -440,7 +442,7 @@ module _ {before one : List Row} (l : Last before one) (r : Row) where
   pub bead_refuses : bead_wrong one r ≡ true → disordered before r ≡ true
   bead_refuses e = go l follows_same e
     where
-      go : {b o : List Row} → Last b o → follows_last o r ≡ follows_last before r → bead_wrong o r ≡ true → disordered before r ≡ true
+      go : {b o : List StateLine} → Last b o → follows_last o r ≡ follows_last before r → bead_wrong o r ≡ true → disordered before r ≡ true
       go none s w = by_follows r (follows_last before r) (sym s ∙ first_bead r w)
       go (last ps p i) s w = bead_causes r p w (follows_last before r) s
 
@@ -448,13 +450,13 @@ module _ {before one : List Row} (l : Last before one) (r : Row) where
   pub state_refuses : state_wrong one r ≡ true → disordered before r ≡ true
   state_refuses e = go l follows_same e
     where
-      go : {b o : List Row} → Last b o → follows_last o r ≡ follows_last before r → state_wrong o r ≡ true → disordered before r ≡ true
+      go : {b o : List StateLine} → Last b o → follows_last o r ≡ follows_last before r → state_wrong o r ≡ true → disordered before r ≡ true
       go none s w = by_follows r (follows_last before r) (sym s ∙ first_state r w)
       go (last ps p i) s w = state_causes r p w (follows_last before r) s
 
   -- So does final over 1, and where bead and state are right, it is over 1.
   pub final_refuses : 1 < r.accepting → disordered before r ≡ true
-  final_refuses h = rw (lt-ltb 1 r.accepting h) (go (not (follows_last before r)) (ltb 8 r.bead) (not (ltb r.state 16)))
+  final_refuses h = rw (lt-ltb 1 r.accepting h) (go (not (follows_last before r)) (ltb most_beads r.bead) (not (ltb r.state most_states)))
     where
       go : (a b c : Bool) → (a || (b || (c || true))) ≡ true
       go true b c = refl
@@ -466,13 +468,13 @@ module _ {before one : List Row} (l : Last before one) (r : Row) where
   unfolding bead_wrong state_wrong follows_last
   final_over d b s = ltb-true 1 r.accepting (go l follows_same b s)
     where
-      go : {b o : List Row} → Last b o → follows_last o r ≡ follows_last before r → bead_wrong o r ≡ false → state_wrong o r ≡ false → ltb 1 r.accepting ≡ true
+      go : {b o : List StateLine} → Last b o → follows_last o r ≡ follows_last before r → bead_wrong o r ≡ false → state_wrong o r ≡ false → ltb 1 r.accepting ≡ true
       go none e w v =
           let x = not-false (eqb r.bead 1) w in
           let y = not-false (eqb r.state 0) v in
           let m = eqb-true r.bead 1 x in
           let n = eqb-true r.state 0 y in
-          sym (rw (sym e, x, y, le-ltb 8 r.bead (omega arith), lt-ltb r.state 16 (omega arith)) refl) ∙ d
+          sym (rw (sym e, x, y, le-ltb most_beads r.bead (omega arith), lt-ltb r.state most_states (omega arith)) refl) ∙ d
       go (last ps p i) e w v =
           let k = order_right r p w v in
           sym (rw (sym e ∙ k.0, k.1, k.2) refl) ∙ d
@@ -491,7 +493,7 @@ single_none : all_single [] ≡ true
 unfolding all_single
 single_none = refl
 
-single_first : (f : List ℕ) (gs : List (List ℕ)) → all_single (map value_of (f ∷ gs)) ≡ (single 16 (value_of f) && all_single (map value_of gs))
+single_first : (f : List ℕ) (gs : List (List ℕ)) → all_single (map value_of (f ∷ gs)) ≡ (single most_states (value_of f) && all_single (map value_of gs))
 unfolding all_single
 single_first f gs = refl
 
@@ -518,7 +520,7 @@ module _ (fs : List (List ℕ)) (test : List ℕ → Bool) (every : List (List �
           let g : not (test (get_or fs (4 + j) [])) ≡ false = sym (rw (le-leb 4 (4 + j) (omega arith)) refl) ∙ (sym (is (4 + j)) ∙ f) in
           ap test (behind fs j) ∙ not-false (test (get_or fs (4 + j) [])) g
 
-module _ (rows : List Row) (fs : List (List ℕ)) where
+module _ (rows : List StateLine) (fs : List (List ℕ)) where
   abbrev has : ℕ
   has = states_of rows (row_of fs).bead
 
@@ -537,19 +539,19 @@ module _ (rows : List Row) (fs : List (List ℕ)) where
       (not-true (all_within has (row_of fs).next) e) z
 
 module _ (fs : List (List ℕ)) where
-  ambiguous_is : (i : ℕ) → ambiguous_set fs i ≡ (leb 4 i && not (single 16 (value_of (get_or fs i []))))
+  ambiguous_is : (i : ℕ) → ambiguous_set fs i ≡ (leb 4 i && not (single most_states (value_of (get_or fs i []))))
   unfolding ambiguous_set
   ambiguous_is i = refl
 
-  -- A next set without exactly one state is a cause of 16 in an ALL bead, and 16 has one.
-  pub ambiguous_refuses : (i : ℕ) → i < length fs → ambiguous_set fs i ≡ true → (row_of fs).rule ≡ 2 → ambiguous (row_of fs) ≡ true
+  -- A next set without exactly one state is a cause of 16 in a bead whose rule needs just one next state, and 16 has one.
+  pub ambiguous_refuses : (i : ℕ) → i < length fs → ambiguous_set fs i ≡ true → needs_one_next (row_of fs).rule ≡ true → ambiguous (row_of fs) ≡ true
   ambiguous_refuses i h w r =
       rw (
-        eq-eqb (row_of fs).rule 2 r,
-        set_fails fs (λ f. single 16 (value_of f)) (λ gs. all_single (map value_of gs)) single_none single_first (ambiguous_set fs) ambiguous_is i h w,
+        r,
+        set_fails fs (λ f. single most_states (value_of f)) (λ gs. all_single (map value_of gs)) single_none single_first (ambiguous_set fs) ambiguous_is i h w,
       ) refl
 
   pub ambiguous_some : ambiguous (row_of fs) ≡ true → ambiguous_at fs ≡ 0 → ⊥
   ambiguous_some e z =
-      some_set fs (λ f. single 16 (value_of f)) (λ gs. all_single (map value_of gs)) single_none single_first (ambiguous_set fs) ambiguous_is
-      (not-true (all_single (row_of fs).next) (and_right (eqb (row_of fs).rule 2) (not (all_single (row_of fs).next)) e)) z
+      some_set fs (λ f. single most_states (value_of f)) (λ gs. all_single (map value_of gs)) single_none single_first (ambiguous_set fs) ambiguous_is
+      (not-true (all_single (row_of fs).next) (and_right (needs_one_next (row_of fs).rule) (not (all_single (row_of fs).next)) e)) z

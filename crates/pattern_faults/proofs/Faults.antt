@@ -9,6 +9,7 @@ use native.Mathlib.Decide.{ℕ_discrete}
 use borrow.Author.Tests.{lt-ltb, leb-true, leb-false, eq-eqb, ne_eqb, eqb-true, eqb-false, not-false}
 use lib.Dec.{eqb, leb, ltb}
 use lib.ListN.{length}
+use Rattle.rules.specs.Rules.{needs_one_next}
 use Rattle.lists.proofs.LeftmostLaws.{clash}
 use Rattle.sets.proofs.Truth.{true_yes}
 use Rattle.text.specs.Lines.{lines_of, printable, whole}
@@ -19,7 +20,7 @@ use Rattle.line_places.proofs.LineLaws.{place_printable}
 use Rattle.line_places.proofs.FaultLaws.{field_at_fault, no_field, byte_at_fault as first_byte}
 use Rattle.layout.specs.Layout.{most_pattern_text, most_line}
 use Rattle.pattern_header.specs.Header.{is_header}
-use Rattle.pattern_order.specs.Row.{disordered, misruled}
+use Rattle.pattern_order.specs.StateLine.{disordered, misruled}
 use Rattle.pattern_row.specs.Fields.{row_of, malformed}
 use Rattle.pattern_store.specs.Next.{states_of, all_single}
 use Rattle.pattern_store.specs.Format.{Known, judge_line, judge_next, pattern_format, conclude, pattern_text}
@@ -166,7 +167,7 @@ placed_next text k n below w (strayed e) =
     (stray below w (field_at_fault (stray_set (states_of (rows_below text) (row_of (fields_at text n)).bead) (fields_at text n)) (fields_at text n) (stray_some (rows_below text) (fields_at text n) e)))
 placed_next text k n below w (doubled x y) =
     subst (Placed text 16 n) (sym (byte_ambiguous text n w))
-    (ambiguous below w x (eqb-true (row_of (fields_at text n)).rule 2 (and_left (eqb (row_of (fields_at text n)).rule 2) (not (all_single (row_of (fields_at text n)).next)) y))
+    (ambiguous below w x (and_left (needs_one_next (row_of (fields_at text n)).rule) (not (all_single (row_of (fields_at text n)).next)) y)
     (field_at_fault (ambiguous_set (fields_at text n)) (fields_at text n) (ambiguous_some (fields_at text n) y)))
 
 -- ---- the text

@@ -17,7 +17,7 @@ use Rattle.text.proofs.SplitLaws.{split_some, joined_split}
 use Rattle.line_places.specs.Place.{lines_bytes, line_at}
 use Rattle.layout.specs.Layout.{most_line}
 use Rattle.pattern_header.specs.Header.{is_header, label_count}
-use Rattle.pattern_order.specs.Row.{Row, disordered, misruled}
+use Rattle.pattern_order.specs.StateLine.{StateLine, disordered, misruled}
 use Rattle.pattern_row.specs.Fields.{row_of, malformed}
 use Rattle.pattern_store.specs.Next.{strays, ambiguous}
 use Rattle.pattern_store.specs.Format.{Known, judge_line, judge_next}
@@ -159,25 +159,25 @@ module _ (text : List ℕ) where
 
 -- ---- all lines pass
 
-abbrev pub rows_of : List TextLine → List Row
-rows_of ls = map (λ l. row_of (spaced l)) ls
+abbrev pub state_lines_in : List TextLine → List StateLine
+state_lines_in ls = map (λ l. row_of (spaced l)) ls
 
 abbrev no_line : TextLine
 no_line = record { bytes = []; newline = false }
 
-pass_later : {s u : Known} {n : ℕ} {ls : List TextLine} → AllPass judge_line s n ls u → 2 ≤ n → u.rows ≡ s.rows ++ rows_of ls
+pass_later : {s u : Known} {n : ℕ} {ls : List TextLine} → AllPass judge_line s n ls u → 2 ≤ n → u.rows ≡ s.rows ++ state_lines_in ls
 pass_later (done {s = s}) h = sym (append-nil s.rows)
 pass_later (next {s = s} {t = t} {n = n} {l = l} {ls = ls} e rest) h =
     let p = passes s t n l e in
     pass_later rest (omega arith)
-    ∙ ap (λ (u : Known). u.rows ++ rows_of ls) (p.later (λ z. absurd (omega arith)))
-    ∙ append_assoc s.rows (row_of (spaced l) ∷ []) (rows_of ls)
+    ∙ ap (λ (u : Known). u.rows ++ state_lines_in ls) (p.later (λ z. absurd (omega arith)))
+    ∙ append_assoc s.rows (row_of (spaced l) ∷ []) (state_lines_in ls)
 
-pass_first : {s u : Known} {n : ℕ} {ls : List TextLine} → AllPass judge_line s n ls u → n ≡ 1 → s.rows ≡ [] → u.rows ≡ rows_of (drop 1 ls)
+pass_first : {s u : Known} {n : ℕ} {ls : List TextLine} → AllPass judge_line s n ls u → n ≡ 1 → s.rows ≡ [] → u.rows ≡ state_lines_in (drop 1 ls)
 pass_first done z e = e
 pass_first (next {s = s} {t = t} {n = n} {l = l} {ls = ls} e rest) z q =
     let p = passes s t n l e in
-    pass_later rest (omega arith) ∙ ap (λ (u : Known). u.rows ++ rows_of ls) (p.first z)
+    pass_later rest (omega arith) ∙ ap (λ (u : Known). u.rows ++ state_lines_in ls) (p.first z)
 
 pass_whole : {s u : Known} {n : ℕ} {ls : List TextLine} → AllPass judge_line s n ls u → (i : ℕ) → i < length ls → whole most_line (get_or ls i no_line) ≡ true
 pass_whole done i h = absurd (omega arith)
@@ -188,11 +188,11 @@ pass_header : {s u : Known} {n : ℕ} {ls : List TextLine} → AllPass judge_lin
 pass_header done z h = absurd (omega arith)
 pass_header (next {s = s} {t = t} {n = n} {l = l} e rest) z h = (passes s t n l e).header z
 
-each_spaced : (ls : List TextLine) → map (λ bs. row_of (split 32 bs)) (map (λ l. l.bytes) ls) ≡ rows_of ls
+each_spaced : (ls : List TextLine) → map (λ bs. row_of (split 32 bs)) (map (λ l. l.bytes) ls) ≡ state_lines_in ls
 each_spaced [] = refl
-each_spaced (l ∷ ls) = ap (λ (rs : List Row). row_of (spaced l) ∷ rs) (each_spaced ls)
+each_spaced (l ∷ ls) = ap (λ (rs : List StateLine). row_of (spaced l) ∷ rs) (each_spaced ls)
 
-below_rows : (ls : List TextLine) → map (λ bs. row_of (split 32 bs)) (drop 1 (map (λ l. l.bytes) ls)) ≡ rows_of (drop 1 ls)
+below_rows : (ls : List TextLine) → map (λ bs. row_of (split 32 bs)) (drop 1 (map (λ l. l.bytes) ls)) ≡ state_lines_in (drop 1 ls)
 below_rows [] = refl
 below_rows (l ∷ ls) = each_spaced ls
 
@@ -214,11 +214,11 @@ lines_some text h = let r = split_some 10 text in go r.0 r.1 r.2
 
 -- ---- 15 and 16: the first row refused
 
-pub data NextFails (rows : List Row) (r : Row) : ℕ → Type 0 where
+pub data NextFails (rows : List StateLine) (r : StateLine) : ℕ → Type 0 where
   strayed : strays rows r ≡ true → NextFails rows r 15
   doubled : strays rows r ≡ false → ambiguous r ≡ true → NextFails rows r 16
 
-next_fails : (rows : List Row) (s : Known) (n k : ℕ) (r : Row) → judge_next rows s n r ≡ refused k → NextFails rows r k
+next_fails : (rows : List StateLine) (s : Known) (n k : ℕ) (r : StateLine) → judge_next rows s n r ≡ refused k → NextFails rows r k
 unfolding number_of
 next_fails rows s n k r e = go (strays rows r) refl (ambiguous r) refl e
   where
@@ -227,12 +227,12 @@ next_fails rows s n k r e = go (strays rows r) refl (ambiguous r) refl e
     go false x true y q = subst (NextFails rows r) (ap number_of q) (doubled x y)
     go false x false y q = let j : ◌≡◌ {A = ℕ} 0 1 = cc in absurd (omega arith)
 
-record BadRow (rows : List Row) (k n : ℕ) : Type 0 where
+record BadRow (rows : List StateLine) (k n : ℕ) : Type 0 where
   low : 2 ≤ n
   inside : n - 2 < length rows
   why : NextFails rows (get_or rows (n - 2) (row_of (spaced no_line))) k
 
-locate_row : (rows : List Row) {s : Known} {n k m : ℕ} {ls : List Row} → FirstBad (judge_next rows) s n ls k m → 2 ≤ n → drop (n - 2) rows ≡ ls → BadRow rows k m
+locate_row : (rows : List StateLine) {s : Known} {n k m : ℕ} {ls : List StateLine} → FirstBad (judge_next rows) s n ls k m → 2 ≤ n → drop (n - 2) rows ≡ ls → BadRow rows k m
 locate_row rows (here {s = s} {n = n} {k = k} {l = r} {ls = ls} e) h q =
     let g = begins (row_of (spaced no_line)) rows (n - 2) r ls q in
     record { low = h; inside = g.inside; why = next_fails rows s n k (get_or rows (n - 2) (row_of (spaced no_line))) (ap (judge_next rows s n) g.is ∙ e) }
@@ -242,7 +242,7 @@ locate_row rows (later {n = n} {l = r} {ls = ls} e rest) h q =
     locate_row rows rest (omega arith) (ap (λ (j : ℕ). drop j rows) i ∙ g.rest)
 
 module _ (text : List ℕ) (k : Known) (s : Known) (start : s.rows ≡ []) (pass : AllPass judge_line s 1 (lines_of text) k) where
-  listed : k.rows ≡ rows_of (drop 1 (lines_of text))
+  listed : k.rows ≡ state_lines_in (drop 1 (lines_of text))
   listed = pass_first pass refl start
 
   -- The rows known after the last line are those of the lines below the header.
@@ -279,13 +279,13 @@ module _ (text : List ℕ) (k : Known) (s : Known) (start : s.rows ≡ []) (pass
       record {
         below = omega arith;
         line = all_whole n (omega arith) (omega arith);
-        why = subst (λ (rs : List Row). NextFails rs (row_of (fields_at text n)) number) all_rows
-            (subst (λ (r : Row). NextFails k.rows r number) (row_is n b.low) b.why);
+        why = subst (λ (rs : List StateLine). NextFails rs (row_of (fields_at text n)) number) all_rows
+            (subst (λ (r : StateLine). NextFails k.rows r number) (row_is n b.low) b.why);
       }
     where
       row_is : (n : ℕ) → 2 ≤ n → get_or k.rows (n - 2) (row_of (spaced no_line)) ≡ row_of (fields_at text n)
       row_is n h =
           let i : 1 + (n - 2) ≡ n - 1 = omega arith in
-          ap (λ (rs : List Row). get_or rs (n - 2) (row_of (spaced no_line))) listed
+          ap (λ (rs : List StateLine). get_or rs (n - 2) (row_of (spaced no_line))) listed
           ∙ (get_or-map (λ l. row_of (spaced l)) (drop 1 (lines_of text)) (n - 2) no_line
           ∙ ap (λ (l : TextLine). row_of (spaced l)) (get_or-drop 1 (lines_of text) (n - 2) no_line ∙ ap (λ (j : ℕ). get_or (lines_of text) j no_line) i))

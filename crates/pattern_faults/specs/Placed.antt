@@ -2,6 +2,7 @@
 -- its byte. Each case denies the ranks above it; a byte that is not 0 is the place of what is at fault, the leftmost of its rank; and where the byte
 -- is 0, the case says why there is no place. No definition that finds a byte is named here.
 use Rattle.std.specs.Prelude.{ℕ, suc, ◌+◌, ◌≤◌, ◌<◌, ◌≡◌, true, false, List, T, length}
+use Rattle.rules.specs.Rules.{needs_one_next}
 use Rattle.text.specs.Lines.{lines_of, whole}
 use Rattle.text.specs.Walk.{bad_size}
 use Rattle.fields.specs.Fields.{part_start}
@@ -9,7 +10,7 @@ use Rattle.line_places.specs.Place.{line_at}
 use Rattle.line_places.specs.Fault.{FieldAtFault, ByteAtFault}
 use Rattle.layout.specs.Layout.{most_pattern_text, most_line}
 use Rattle.pattern_header.specs.Header.{is_header}
-use Rattle.pattern_order.specs.Row.{disordered, misruled}
+use Rattle.pattern_order.specs.StateLine.{disordered, misruled}
 use Rattle.pattern_row.specs.Fields.{row_of, malformed}
 use Rattle.pattern_store.specs.Next.{states_of, strays}
 use Rattle.pattern_places.specs.Place.{wrong_name, no_number, bead_wrong, state_wrong, stray_set, ambiguous_set}
@@ -64,6 +65,6 @@ pub data Placed (text : List ℕ) : ℕ → ℕ → ℕ → Type 0 where
   -- 15: a next set with a state that the bead lacks
   stray : {n b : ℕ} → 1 < n → WholeLine text n
       → FieldAtFault (stray_set (states_of (rows_below text) (row_of (fields_at text n)).bead) (fields_at text n)) (fields_at text n) b → Placed text 15 n b
-  -- 16: in an ALL bead, without such a set, a next set without exactly one state
-  ambiguous : {n b : ℕ} → 1 < n → WholeLine text n → strays (rows_below text) (row_of (fields_at text n)) ≡ false → (row_of (fields_at text n)).rule ≡ 2
+  -- 16: in a bead whose rule needs just one next state, without such a set, a next set without exactly one state
+  ambiguous : {n b : ℕ} → 1 < n → WholeLine text n → strays (rows_below text) (row_of (fields_at text n)) ≡ false → needs_one_next (row_of (fields_at text n)).rule ≡ true
       → FieldAtFault (ambiguous_set (fields_at text n)) (fields_at text n) b → Placed text 16 n b

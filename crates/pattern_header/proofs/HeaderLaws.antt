@@ -13,7 +13,7 @@ use native.Mathlib.Numerals.{add-one}
 use Rattle.pattern_line.specs.Line.{fields_of}
 use Rattle.pattern_header.specs.Header.{columns, same_fields, is_name, are_names, among, distinct, is_header, label_count}
 use Rattle.pattern_line.specs.Answers.{refusal}
-use Rattle.pattern_header.specs.Answers.{header_judged, header_said, header_numbers}
+use Rattle.pattern_header.specs.inner.Answers.{header_judged, header_said, header_numbers}
 use Rattle.fields.specs.Fields.{same_bytes}
 use Rattle.std.specs.List.{list_all, list_any, range_with_len}
 use Rattle.std.specs.Prelude.{Ok, Err}

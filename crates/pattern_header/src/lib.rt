@@ -4,9 +4,10 @@
 ghost use Rattle.std.specs.Prelude.{◌≡◌, ◌+◌, take, drop, get_or, []};
 ghost use Rattle.pattern_line.specs.Line.{fields_of, field_at};
 ghost use Rattle.pattern_header.specs.Header.{columns, same_fields, name_bytes, is_name, are_names, among, distinct, is_header};
-ghost use Rattle.pattern_header.specs.Answers.{header_judged, header_said, header_numbers};
+ghost use Rattle.pattern_header.specs.inner.Answers.{header_judged, header_said, header_numbers};
 
 use fields::Fields;
+use layout::PATTERN_FIELDS;
 use pattern_line::refusals::Refusal;
 
 // The names of the first four fields.
@@ -42,21 +43,21 @@ pub fn is_name(field: &[u8]) -> bool
 
 // Are the first four fields `bead`, `rule`, `state` and `final`?
 #[tactic(auto, using(crate::proofs::HeaderLaws::columns_kit))]
-fn has_columns(fields: &Fields<24>) -> bool
+fn has_columns(fields: &Fields<PATTERN_FIELDS>) -> bool
     ensures { result ≡ same_fields (take 4 (fields_of fields.now.line.now)) columns }
 {
     (0..4).all(|i| fields.field(i) == column(i))
 }
 
 // Are all fields after those four names?
-fn are_names(fields: &Fields<24>) -> bool
+fn are_names(fields: &Fields<PATTERN_FIELDS>) -> bool
     ensures { result ≡ are_names (drop 4 (fields_of fields.now.line.now)) }
 {
     (4..fields.len()).all(|i| is_name(fields.field(i)))
 }
 
 // Does the field stand among those after it?
-fn stands_again(fields: &Fields<24>, index: usize) -> bool
+fn stands_again(fields: &Fields<PATTERN_FIELDS>, index: usize) -> bool
     ensures { result ≡ among (field_at fields.now.line.now index) (drop (index + 1) (fields_of fields.now.line.now)) }
 {
     index < fields.len()
@@ -64,7 +65,7 @@ fn stands_again(fields: &Fields<24>, index: usize) -> bool
 }
 
 // Are the fields after the first four distinct?
-fn are_distinct(fields: &Fields<24>) -> bool
+fn are_distinct(fields: &Fields<PATTERN_FIELDS>) -> bool
     ensures { result ≡ distinct (drop 4 (fields_of fields.now.line.now)) }
 {
     (4..fields.len()).all(|i| !stands_again(fields, i))
@@ -72,7 +73,7 @@ fn are_distinct(fields: &Fields<24>) -> bool
 
 // Is the line a header?
 #[tactic(auto, using(crate::proofs::HeaderLaws::header_kit))]
-fn is_header(fields: &Fields<24>) -> bool
+fn is_header(fields: &Fields<PATTERN_FIELDS>) -> bool
     ensures { result ≡ is_header (fields_of fields.now.line.now) }
 {
     let labels = fields.len().saturating_sub(4);
@@ -88,7 +89,7 @@ pub fn read_header(line: &[u8]) -> Result<u16, Refusal>
     ensures value { result ≡ header_judged (fields_of line.now) }
     ensures said { header_said result ≡ header_numbers (fields_of line.now) }
 {
-    let fields: Fields<24> = Fields::split(line);
+    let fields: Fields<PATTERN_FIELDS> = Fields::split(line);
     if is_header(&fields) {
         Ok((fields.len() - 4) as u16)
     } else {

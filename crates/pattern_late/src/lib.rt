@@ -1,8 +1,9 @@
 // The refusals that need all rows: over the numbers of a pattern buffer, slot by slot, in the order of the rows.
-// The slot 16 j + q belongs to the state q of the bead with place j.
+// The slot `MOST_STATES * j + q` belongs to the state q of the bead with place j.
 #![tactic(auto)]
 
 ghost use Rattle.std.specs.Prelude.{◌≡◌, ◌≤◌, ◌<◌};
+ghost use Rattle.layout.specs.Layout.{most_states, all_states};
 ghost use Rattle.pattern_store.specs.Next.{all_within, all_single};
 ghost use Rattle.pattern_late.specs.Late.{Bounded, slot_said, judge_slot, late_said, late_faults};
 
@@ -12,7 +13,7 @@ use text::faults::{Fault, in_line};
 // Has every set only states below n?
 #[tactic(auto, unfolding(pattern_store::specs::Next::all_within))]
 fn all_within(sets: &[u16], n: u16) -> bool
-    requires { n ≤ 16 }
+    requires { n ≤ most_states }
     ensures { result ≡ all_within n sets.now }
 {
     sets.iter().all(|set| sets::within(*set, n))
@@ -29,7 +30,7 @@ fn all_single(sets: &[u16]) -> bool
 // 15, then 16, of the next sets of a slot: one for each label.
 #[tactic(auto, using(crate::proofs::LateLaws::slot_kit))]
 fn judge_slot(buffer: &[u16], slot: usize) -> Result<(), Refusal>
-    requires { Bounded buffer.now × (slot < 128) }
+    requires { Bounded buffer.now × (slot < all_states) }
     ensures { slot_said result ≡ judge_slot buffer.now tt 0 slot }
 {
     let j = slot / layout::MOST_STATES;
@@ -37,7 +38,7 @@ fn judge_slot(buffer: &[u16], slot: usize) -> Result<(), Refusal>
     let sets = &buffer[from..from + usize::from(buffer[0])];
     if !all_within(sets, buffer[layout::STATE_COUNTS + j]) {
         Err(Refusal::NextState)
-    } else if buffer[layout::RULES + j] == layout::ALL && !all_single(sets) {
+    } else if rules::needs_one_next(buffer[layout::RULES + j]) && !all_single(sets) {
         Err(Refusal::NextCount)
     } else {
         Ok(())

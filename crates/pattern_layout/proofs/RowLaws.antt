@@ -7,18 +7,18 @@ use native.Mathlib.Numerals.{add-one}
 use lib.ListN.{get_or}
 use Rattle.text.specs.Split.{line_from}
 use Rattle.layout.specs.Layout.{states_at}
-use Rattle.pattern_order.specs.Row.{Row}
+use Rattle.pattern_order.specs.StateLine.{StateLine}
 use Rattle.lists.specs.Places.{at}
 use Rattle.pattern_texts.specs.Spelled.{row_in, rows_of_bead, rows_of_beads, fields_of, row_lines}
 use Rattle.pattern_layout.proofs.LineLaws.{place_kit}
 
-lines_append : (rs ss : List Row) → row_lines rs ++ row_lines ss ≡ row_lines (rs ++ ss)
+lines_append : (rs ss : List StateLine) → row_lines rs ++ row_lines ss ≡ row_lines (rs ++ ss)
 unfolding row_lines
 lines_append [] ss = refl
 lines_append (r ∷ rs) ss =
     append_assoc (line_from (fields_of r)) (row_lines rs) (row_lines ss) ∙ ap (λ (t : List ℕ). line_from (fields_of r) ++ t) (lines_append rs ss)
 
-one_line : (r : Row) → line_from (fields_of r) ≡ row_lines (r ∷ [])
+one_line : (r : StateLine) → line_from (fields_of r) ≡ row_lines (r ∷ [])
 unfolding row_lines
 one_line r = sym (append-nil (line_from (fields_of r)))
 

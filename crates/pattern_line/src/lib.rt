@@ -1,5 +1,5 @@
 // What the lines of a pattern share: the refusals.
-// A line has at most 20 fields: `Fields<24>` has room for them and for where the line ends.
+// A line's fields are `Fields<PATTERN_FIELDS>`: room for each, and for where the line ends.
 #![tactic(auto)]
 
 pub mod refusals;

@@ -8,10 +8,11 @@ use native.Mathlib.Omega.{arith}
 use borrow.Author.Tests.{eq-eqb, ne_eqb}
 use lib.Dec.{eqb}
 use Rattle.std.specs.Prelude.{Option, Some, None, Ok, Err}
+use Rattle.rules.specs.Rules.{is_rule}
 use Rattle.pattern_line.specs.Answers.{refusal}
 use Rattle.pattern_line.specs.declared.refusals.Refusal.TheVariants.{Order, Rule as Misruled}
-use Rattle.pattern_order.specs.Row.{Row, follows_last, breaks_turns, disordered, misruled}
-use Rattle.pattern_order.specs.Answers.{line_said, order_judged, order_said, row_for, rows_at}
+use Rattle.pattern_order.specs.StateLine.{StateLine, follows_last, breaks_turns, disordered, misruled}
+use Rattle.pattern_order.specs.inner.Answers.{line_said, order_judged, order_said, row_for, rows_at}
 use Rattle.pattern_order.specs.declared.LineValues.{LineValues}
 
 not-not : (t : Bool) → not (not t) ≡ t
@@ -64,17 +65,18 @@ pub ruleset turns_kit = (turns_none, turns_inside, turns_next)
 
 -- ---- the values
 
-module _ (v : LineValues) (before : List Row) where
-  pub rule_missing : v.rule ≡ 0 → false ≡ not (misruled before (row_for v))
-  rule_missing e = sym (rw (eq-eqb v.rule 0 e) refl)
+module _ (v : LineValues) (before : List StateLine) where
+  module _ (t : Bool) (g : t ≡ is_rule v.rule) where
+    pub rule_missing : t ≡ false → t ≡ not (misruled before (row_for v))
+    rule_missing e = sym (rw (sym g ∙ e) (sym e))
 
-  pub rule_there : (v.rule ≡ 0 → ⊥) → (u : Bool) → u ≡ breaks_turns before (row_for v) → not u ≡ not (misruled before (row_for v))
-  rule_there n u k = ap not (k ∙ sym (rw (ne_eqb v.rule 0 n) refl))
+    pub rule_there : t ≡ true → (u : Bool) → u ≡ breaks_turns before (row_for v) → not u ≡ not (misruled before (row_for v))
+    rule_there e u k = ap not (k ∙ sym (rw (sym g ∙ e) refl))
 
 pub ruleset ruled_kit = (rule_missing, rule_there)
 
 -- The answer in numbers is the one that the definition in numbers gives.
-pub judged_said : (before : List Row) (v : LineValues) → line_said (order_judged before v) ≡ order_said before (row_for v)
+pub judged_said : (before : List StateLine) (v : LineValues) → line_said (order_judged before v) ≡ order_said before (row_for v)
 unfolding order_judged order_said
 judged_said before v = go (disordered before (row_for v)) (misruled before (row_for v))
   where
@@ -83,7 +85,7 @@ judged_said before v = go (disordered before (row_for v)) (misruled before (row_
     go false true = refl
     go false false = refl
 
-module _ (before : List Row) (v : LineValues) (t : Bool) (g : t ≡ not (disordered before (row_for v))) where
+module _ (before : List StateLine) (v : LineValues) (t : Bool) (g : t ≡ not (disordered before (row_for v))) where
   pub order_broken : not t ≡ true → Err Order ≡ order_judged before v
   unfolding order_judged
   order_broken e = sym (rw (sym (not-not (disordered before (row_for v))) ∙ ap not (sym g) ∙ e) refl)
@@ -111,23 +113,23 @@ pub ruleset values_kit = (order_broken, rule_broken, values_right, order_broken_
 -- ---- the next sets left out
 
 -- 13 and 14 do not look at the next sets.
-follows_values : (rows : List Row) (r s : Row) → r.bead ≡ s.bead → r.state ≡ s.state → follows_last rows r ≡ follows_last rows s
+follows_values : (rows : List StateLine) (r s : StateLine) → r.bead ≡ s.bead → r.state ≡ s.state → follows_last rows r ≡ follows_last rows s
 unfolding follows_last
 follows_values [] r s b q = rw (b, q) refl
 follows_values (p ∷ []) r s b q = rw (b, q) refl
 follows_values (p ∷ (o ∷ ps)) r s b q = follows_values (o ∷ ps) r s b q
 
-turns_values : (rows : List Row) (r s : Row) → r.bead ≡ s.bead → r.rule ≡ s.rule → breaks_turns rows r ≡ breaks_turns rows s
+turns_values : (rows : List StateLine) (r s : StateLine) → r.bead ≡ s.bead → r.rule ≡ s.rule → breaks_turns rows r ≡ breaks_turns rows s
 unfolding breaks_turns
 turns_values [] r s b q = refl
 turns_values (p ∷ []) r s b q = rw (b, q) refl
 turns_values (p ∷ (o ∷ ps)) r s b q = turns_values (o ∷ ps) r s b q
 
-pub order_values : (rows : List Row) (r s : Row) → r.bead ≡ s.bead → r.rule ≡ s.rule → r.state ≡ s.state → r.accepting ≡ s.accepting
+pub order_values : (rows : List StateLine) (r s : StateLine) → r.bead ≡ s.bead → r.rule ≡ s.rule → r.state ≡ s.state → r.accepting ≡ s.accepting
     → (disordered rows r ≡ disordered rows s) × (misruled rows r ≡ misruled rows s)
 order_values rows r s b u q f = (rw (follows_values rows r s b q, b, q, f) refl, rw (turns_values rows r s b u, u) refl)
 
-pub said_values : (rows : List Row) (v : LineValues) (s : Row) → v.bead ≡ s.bead → v.rule ≡ s.rule → v.state ≡ s.state → v.accepting ≡ s.accepting
+pub said_values : (rows : List StateLine) (v : LineValues) (s : StateLine) → v.bead ≡ s.bead → v.rule ≡ s.rule → v.state ≡ s.state → v.accepting ≡ s.accepting
     → order_said rows (row_for v) ≡ order_said rows s
 unfolding order_said
 said_values rows v s b u q f = let o = order_values rows (row_for v) s b u q f in rw (o.0, o.1, b, u, q, f) refl

@@ -1,2 +1,2 @@
-pub mod Row
-pub mod Answers
+pub mod StateLine
+pub mod inner

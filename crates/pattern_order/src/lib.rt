@@ -2,13 +2,13 @@
 #![tactic(auto)]
 
 ghost use Rattle.std.specs.Prelude.{◌≡◌, not};
-ghost use Rattle.pattern_order.specs.Row.{follows_last, breaks_turns, disordered, misruled};
-ghost use Rattle.pattern_order.specs.Answers.{line_said, order_judged, order_said, row_for, rows_at};
+ghost use Rattle.pattern_order.specs.StateLine.{follows_last, breaks_turns, disordered, misruled};
+ghost use Rattle.pattern_order.specs.inner.Answers.{line_said, order_judged, order_said, row_for, rows_at};
 
 use pattern_line::refusals::Refusal;
 
-// A line's values but for its next sets: bead, rule (1 SOME, 2 ALL, 0 neither), state, final: plain numbers, the next sets stand beside
-// them.
+// A line's values but for its next sets: bead, rule (its number, 0 where the field names none), state, final: plain numbers, the next sets
+// stand beside them.
 #[derive(Clone, Copy)]
 pub struct LineValues {
     pub bead: u16,
@@ -55,7 +55,10 @@ fn breaks_turns(v: LineValues, last: Option<LineValues>) -> bool
 fn is_ordered(v: LineValues, last: Option<LineValues>) -> bool
     ensures { result ≡ not (disordered (rows_at last) (row_for v)) }
 {
-    follows(v, last) && v.bead <= 8 && v.state < 16 && v.accepting <= 1
+    follows(v, last)
+        && usize::from(v.bead) <= layout::MOST_BEADS
+        && usize::from(v.state) < layout::MOST_STATES
+        && v.accepting <= 1
 }
 
 // Is there a rule, and is it its turn?
@@ -63,7 +66,7 @@ fn is_ordered(v: LineValues, last: Option<LineValues>) -> bool
 fn is_ruled(v: LineValues, last: Option<LineValues>) -> bool
     ensures { result ≡ not (misruled (rows_at last) (row_for v)) }
 {
-    v.rule != 0 && !breaks_turns(v, last)
+    rules::is_rule(v.rule) && !breaks_turns(v, last)
 }
 
 // The values in their order, or the refusal.

@@ -3,20 +3,21 @@
 use mathlib.Core.Path.{◌≡◌, refl, sym, ◌∙◌}
 use mathlib.Core.Bool.{Bool, true, false, not, ◌||◌, or-false}
 use mathlib.Core.List.{List, []}
-use Prim.Native.Nat.{ℕ, ◌≤◌, ◌<◌}
+use Prim.Native.Nat.{ℕ, ◌+◌, ◌≤◌, ◌<◌}
 use native.Mathlib.Omega.{arith}
 use borrow.Author.Tests.{lt-ltb, le-ltb, le-leb}
 use lib.Dec.{leb}
 use lib.ListN.{get_or}
+use Rattle.layout.specs.Layout.{most_labels}
 use Rattle.fields.specs.Fields.{same_bytes}
 use Rattle.pattern_header.specs.Header.{columns, is_name, among}
 use Rattle.pattern_places.specs.Place.{labels_before, wrong_name}
 
 -- ---- a wrong name
 
-pub wrong_crowded : (fs : List (List ℕ)) (i : ℕ) → 20 ≤ i → leb 20 i ≡ wrong_name fs i
+pub wrong_crowded : (fs : List (List ℕ)) (i : ℕ) → (4 + most_labels) ≤ i → leb (4 + most_labels) i ≡ wrong_name fs i
 unfolding wrong_name
-wrong_crowded fs i h = le-leb 20 i h ∙ sym (rw (le-ltb i 4 (omega arith), le-ltb i 20 h) (go (is_name (get_or fs i [])) (among (get_or fs i []) (labels_before fs i))))
+wrong_crowded fs i h = le-leb (4 + most_labels) i h ∙ sym (rw (le-ltb i 4 (omega arith), le-ltb i (4 + most_labels) h) (go (is_name (get_or fs i [])) (among (get_or fs i []) (labels_before fs i))))
   where
     go : (a b : Bool) → (not a || (b || true)) ≡ true
     go true true = refl
@@ -28,10 +29,10 @@ module _ (fs : List (List ℕ)) (i : ℕ) (t : Bool) where
   unfolding wrong_name
   wrong_column h g = g ∙ sym (rw (lt-ltb i 4 h) refl)
 
-  module _ (h : 4 ≤ i) (k : i < 20) (g : t ≡ is_name (get_or fs i [])) where
+  module _ (h : 4 ≤ i) (k : i < (4 + most_labels)) (g : t ≡ is_name (get_or fs i [])) where
     past : wrong_name fs i ≡ (not t || (among (get_or fs i []) (labels_before fs i) || false))
     unfolding wrong_name
-    past = rw (le-ltb i 4 h, lt-ltb i 20 k, sym g) refl
+    past = rw (le-ltb i 4 h, lt-ltb i (4 + most_labels) k, sym g) refl
 
     pub wrong_unnamed : not t ≡ true → not t ≡ wrong_name fs i
     wrong_unnamed e = e ∙ sym (past ∙ rw e refl)

@@ -6,7 +6,7 @@ use Rattle.numbers.specs.Numbers.{is_number, value_of}
 use Rattle.line_places.specs.Place.{place_at, place_where}
 use Rattle.layout.specs.Layout.{most_labels, most_beads, most_states}
 use Rattle.pattern_header.specs.Header.{columns, is_name, among}
-use Rattle.pattern_order.specs.Row.{Row}
+use Rattle.pattern_order.specs.StateLine.{StateLine}
 use Rattle.pattern_row.specs.Fields.{row_of}
 
 -- 12. The labels that stand before the field with index i.
@@ -34,18 +34,18 @@ malformed_at c fs = cond (eqb (length fs) (4 + c)) (place_where (no_number fs) f
 
 -- 13. The bead is over 8, or neither the last line's bead nor one more; in the first line below the header: not 1.
 -- `before` holds the row of the line before, if that is below the header.
-unfoldable pub bead_wrong : List Row → Row → Bool
+unfoldable pub bead_wrong : List StateLine → StateLine → Bool
 bead_wrong [] r = not (eqb r.bead 1)
 bead_wrong (p ∷ ps) r = ltb most_beads r.bead || not (eqb r.bead p.bead || eqb r.bead (p.bead + 1))
 
 -- The state is over 15, or not the last state plus 1 in the same bead, or not 0 in the next bead and in the first line below the header.
-unfoldable pub state_wrong : List Row → Row → Bool
+unfoldable pub state_wrong : List StateLine → StateLine → Bool
 state_wrong [] r = not (eqb r.state 0)
 state_wrong (p ∷ ps) r =
     not (ltb r.state most_states) || cond (eqb r.bead p.bead) (not (eqb r.state (p.state + 1))) (not (eqb r.state 0))
 
 -- The bead, else the state, else final.
-unfoldable pub disordered_at : List Row → List (List ℕ) → ℕ
+unfoldable pub disordered_at : List StateLine → List (List ℕ) → ℕ
 disordered_at before fs =
     cond (bead_wrong before (row_of fs)) (place_at fs 0) (cond (state_wrong before (row_of fs)) (place_at fs 2) (place_at fs 3))
 
@@ -62,7 +62,7 @@ straying_at n fs = place_where (stray_set n fs) fs
 
 -- 16. The leftmost next set without exactly one state.
 unfoldable pub ambiguous_set : List (List ℕ) → ℕ → Bool
-ambiguous_set fs i = leb 4 i && not (single 16 (value_of (get_or fs i [])))
+ambiguous_set fs i = leb 4 i && not (single most_states (value_of (get_or fs i [])))
 
 abbrev pub ambiguous_at : List (List ℕ) → ℕ
 ambiguous_at fs = place_where (ambiguous_set fs) fs

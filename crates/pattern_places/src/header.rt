@@ -6,11 +6,12 @@ ghost use Rattle.pattern_places.specs.Place.{labels_before, wrong_name, header_a
 ghost use Rattle.line_places.specs.Place.{as_place};
 
 use fields::Fields;
+use layout::PATTERN_FIELDS;
 use line_places::place_where;
 use pattern_header::{column, is_name};
 
 // Does the field stand among the labels before it?
-fn stands_before(fields: &Fields<24>, index: usize) -> bool
+fn stands_before(fields: &Fields<PATTERN_FIELDS>, index: usize) -> bool
     requires { index < length (split 32 fields.now.line.now) }
     ensures { result ≡ among (get_or (split 32 fields.now.line.now) index []) (labels_before (split 32 fields.now.line.now) index) }
 {
@@ -19,7 +20,7 @@ fn stands_before(fields: &Fields<24>, index: usize) -> bool
 
 // Is the name with this index wrong?
 #[tactic(auto, using(crate::proofs::HeaderLaws::wrong_kit))]
-fn wrong_name(fields: &Fields<24>, index: usize) -> bool
+fn wrong_name(fields: &Fields<PATTERN_FIELDS>, index: usize) -> bool
     requires { index < length (split 32 fields.now.line.now) }
     ensures { result ≡ wrong_name (split 32 fields.now.line.now) index }
 {
@@ -36,6 +37,6 @@ fn wrong_name(fields: &Fields<24>, index: usize) -> bool
 pub fn header_place(line: &[u8]) -> Option<usize>
     ensures { result ≡ as_place (header_at (split 32 line.now)) }
 {
-    let fields: Fields<24> = Fields::split(line);
+    let fields: Fields<PATTERN_FIELDS> = Fields::split(line);
     place_where(&fields, |i| wrong_name(&fields, i))
 }

@@ -3,14 +3,15 @@
 use mathlib.Core.Path.{◌≡◌, refl, sym, ap, ap₂, ◌∙◌}
 use mathlib.Core.Bool.{Bool, true, false, not, cond, ◌&&◌, and-true, and-false}
 use mathlib.Core.List.{List, [], ◌∷◌}
-use Prim.Native.Nat.{ℕ, zero, suc, ◌+◌, ◌≤◌, ◌<◌}
+use Prim.Native.Nat.{ℕ, zero, suc, ◌+◌, ◌-◌, ◌≤◌, ◌<◌, min}
 use native.Mathlib.Numerals.{add-one}
 use native.Mathlib.Omega.{arith}
 use borrow.Author.Tests.{ltb-true, ltb-false, eq-eqb, ne_eqb, not-true, not-false}
 use lib.Dec.{eqb, ltb}
-use lib.ListN.{length, get_or, take, drop, set, replicate, length-drop}
+use lib.ListN.{length, get_or, take, drop, set, replicate, length-drop, length-append, length-replicate, get_or-append}
 use lib.Seq.{take_all, drop-nil, get_or-drop}
 use Rattle.numbers.proofs.ListedLaws.{are_numbers_none, are_numbers_first}
+use Rattle.numbers.specs.Numbers as Numbers
 use Rattle.numbers.specs.Numbers.{number_of, is_number, value_of}
 use Rattle.std.specs.Prelude.{Option, Some, None, is_some, unwrap_or, Result, Err}
 use Rattle.layout.specs.Layout.{most_labels}
@@ -18,14 +19,17 @@ use Rattle.pattern_line.specs.Line.{fields_of, field_at}
 use Rattle.pattern_line.specs.Answers.{Said, refusal}
 use Rattle.pattern_line.specs.declared.refusals.Refusal.{Refusal}
 use Rattle.pattern_line.specs.declared.refusals.Refusal.TheVariants.{Malformed}
-use Rattle.pattern_order.specs.Row.{Row}
-use Rattle.pattern_order.specs.Answers.{line_said, order_judged, row_for, order_said}
+use Rattle.pattern_order.specs.StateLine.{StateLine}
+use Rattle.pattern_order.specs.inner.Answers.{line_said, order_judged, row_for, order_said}
 use Rattle.pattern_order.proofs.OrderLaws.{judged_said, said_values}
 use Rattle.pattern_order.specs.declared.LineValues.{LineValues}
-use Rattle.pattern_row.specs.Fields.{rule_of, row_of, malformed}
-use Rattle.pattern_row.specs.Answers.{values_of, values_read, row_judged, row_said, next_sets}
+use Rattle.rules.specs.Rules.{rule_of}
+use Rattle.pattern_row.specs.Fields.{row_of, malformed}
+use Rattle.pattern_row.specs.inner.Answers.{values_of, values_read, row_judged, row_said, next_sets}
 use Rattle.numbers.specs.Listed.{are_numbers}
-use Rattle.lists.proofs.Tables.{part, part_none, part_more, part_all}
+use Rattle.lists.proofs.Tables.{part, part_none, part_more, table_is, length-table, get_or-table, zeros_at}
+use Rattle.lists.specs.Tables.{table}
+use Rattle.std.proofs.lemmas.List.{get_or_past, get_or-append_right}
 
 -- ---- a field, as reading it answers
 
@@ -81,7 +85,7 @@ set_at line a = value_of (field_at line (4 + a))
 
 -- the fields that say one
 abbrev pub set_fields : List ℕ → List (List ℕ)
-set_fields line = take 16 (drop 4 (fields_of line))
+set_fields line = take most_labels (drop 4 (fields_of line))
 
 one_more : (fs : List (List ℕ)) (n i : ℕ) → i < n → i < length fs
     → are_numbers (drop i (take n fs)) ≡ (is_number (get_or fs i []) && are_numbers (drop (suc i) (take n fs)))
@@ -90,82 +94,91 @@ one_more (f ∷ fs) zero i h k = absurd (omega arith)
 one_more (f ∷ fs) (suc n) zero h k = are_numbers_first f (take n fs)
 one_more (f ∷ fs) (suc n) (suc i) h k = one_more fs n i (omega arith) (omega arith)
 
-no_more : (fs : List (List ℕ)) (n i : ℕ) → length fs ≤ i → are_numbers (drop i (take n fs)) ≡ true
+-- Behind the last field, or the last of n, none is looked at.
+no_more : (fs : List (List ℕ)) (n i : ℕ) → min (length fs) n ≤ i → are_numbers (drop i (take n fs)) ≡ true
 no_more [] zero i h = ap are_numbers (drop-nil i) ∙ are_numbers_none
 no_more [] (suc n) i h = ap are_numbers (drop-nil i) ∙ are_numbers_none
-no_more (f ∷ fs) n zero h = absurd (omega arith)
-no_more (f ∷ fs) zero (suc i) h = are_numbers_none
+no_more (f ∷ fs) zero i h = ap are_numbers (drop-nil i) ∙ are_numbers_none
+no_more (f ∷ fs) (suc n) zero h = absurd (omega arith)
 no_more (f ∷ fs) (suc n) (suc i) h = no_more fs n i (omega arith)
 
-all_passed : (fs : List (List ℕ)) (n i : ℕ) → n ≤ i → are_numbers (drop i (take n fs)) ≡ true
-all_passed fs zero i h = ap are_numbers (drop-nil i) ∙ are_numbers_none
-all_passed [] (suc n) i h = ap are_numbers (drop-nil i) ∙ are_numbers_none
-all_passed (f ∷ fs) (suc n) zero h = absurd (omega arith)
-all_passed (f ∷ fs) (suc n) (suc i) h = all_passed fs n i (omega arith)
-
--- an array of 16 zeros, as the loop begins
+-- an array of zeros, one a label, as the loop begins
 abbrev pub zeros : List ℕ
-zeros = replicate 16 0
+zeros = replicate most_labels 0
 
 pub sets_none : (line : List ℕ) → zeros ≡ part (set_at line) 0 zeros
 sets_none line = part_none (set_at line) zeros
 
-module _ (line : List ℕ) (a : ℕ) (h : a < 16) (x : Option ℕ) (given : x ≡ number_of (field_at line (4 + a))) where
-  pub set_read : (next : List ℕ) → next ≡ part (set_at line) a zeros → (v : ℕ) → v ≡ unwrap_or x 0 → set next a v ≡ part (set_at line) (a + 1) zeros
-  set_read next inv v e =
-      ap₂ (λ (y : List ℕ) (z : ℕ). set y a z) inv (e ∙ ap (λ (o : Option ℕ). unwrap_or o 0) given) ∙ part_more (set_at line) a zeros (omega arith)
+-- A function that is 0 from a on, over zeros of which the first a are written.
+part_zeros : (f : ℕ → ℕ) (a n : ℕ) → a ≤ n → ((i : ℕ) → a ≤ i → i < n → ◌≡◌ {A = ℕ} (f i) 0) → table f n ≡ part f a (replicate n 0)
+part_zeros f a n h past = table_is f n (part f a (replicate n 0)) long value
+  where
+    zs : List ℕ
+    zs = replicate n 0
 
-  module _ (whole numbers : Bool) (inv : whole ≡ (numbers && are_numbers (drop a (set_fields line)))) (none : Bool) (told : is_some x ≡ not none) where
-    some_is : is_number (field_at line (4 + a)) ≡ not none
-    some_is = sym (ap is_some given) ∙ told
+    long : length (part f a zs) ≡ n
+    long = length-append (table f a) (drop a zs) ∙ let x = length-table f a in let y = length-drop a zs in let z = length-replicate {A = ℕ} n 0 in omega arith
 
-    behind : a < length (drop 4 (fields_of line)) → are_numbers (drop a (set_fields line)) ≡ (not none && are_numbers (drop (a + 1) (set_fields line)))
-    behind k =
-        one_more (drop 4 (fields_of line)) 16 a h k
-        ∙ ap₂ (λ (b : Bool) (i : ℕ). b && are_numbers (drop i (set_fields line))) (ap is_number (get_or-drop 4 (fields_of line) a []) ∙ some_is) (sym (add-one a))
-
-    lacked : length (drop 4 (fields_of line)) ≤ a → whole ≡ (numbers && are_numbers (drop (a + 1) (set_fields line)))
-    lacked k =
-        inv
-        ∙ ap (λ (b : Bool). numbers && b) (no_more (drop 4 (fields_of line)) 16 a k ∙ sym (no_more (drop 4 (fields_of line)) 16 (a + 1) (omega arith)))
-
-    pub numbers_more : none ≡ false → whole ≡ (numbers && are_numbers (drop (a + 1) (set_fields line)))
-    numbers_more e = go (ltb a (length (drop 4 (fields_of line)))) refl
+    value : (i : ℕ) → i < n → get_or (part f a (replicate n 0)) i 0 ≡ f i
+    value i k = go (ltb i a) refl
       where
-        go : (t : Bool) → ltb a (length (drop 4 (fields_of line))) ≡ t → whole ≡ (numbers && are_numbers (drop (a + 1) (set_fields line)))
-        go true k =
-            inv
-            ∙ ap (λ (b : Bool). numbers && b)
-            (behind (ltb-true a (length (drop 4 (fields_of line))) k) ∙ ap (λ (t : Bool). not t && are_numbers (drop (a + 1) (set_fields line))) e)
-        go false k = lacked (ltb-false a (length (drop 4 (fields_of line))) k)
+        go : (t : Bool) → ltb i a ≡ t → get_or (part f a (replicate n 0)) i 0 ≡ f i
+        go true e =
+            let z = ltb-true i a e in
+            let l = length-table f a in
+            get_or-append (table f a) (drop a (replicate n 0)) 0 i (omega arith) ∙ get_or-table f a i z
+        go false e =
+            let z = ltb-false i a e in
+            get_or-append_right (table f a) (drop a (replicate n 0)) a i 0 (length-table f a) z
+            ∙ get_or-drop a (replicate n 0) (i - a) 0 ∙ zeros_at n (a + (i - a)) ∙ sym (past i z k)
 
-    module _ (n : ℕ) (count : n ≡ length (fields_of line)) where
-      pub numbers_lacked : n ≤ 4 + a → whole ≡ (numbers && are_numbers (drop (a + 1) (set_fields line)))
-      numbers_lacked k = let e = length-drop 4 (fields_of line) in lacked (omega arith)
+-- The fields that are looked at: as many as are there after the first four, at most one a label.
+module _ (line : List ℕ) (n s m : ℕ) (count : n ≡ length (fields_of line)) (left : s ≡ n - 4) (most : m ≡ min s most_labels) where
+  seen : m ≡ min (length (drop 4 (fields_of line))) most_labels
+  seen = let l = length-drop 4 (fields_of line) in omega arith
 
-      pub numbers_wrong : 4 + a < n → none ≡ true → whole ≡ (false && are_numbers (drop (a + 1) (set_fields line)))
-      numbers_wrong k e =
-          let l = length-drop 4 (fields_of line) in
-          inv ∙ ap (λ (b : Bool). numbers && b) (behind (omega arith) ∙ ap (λ (t : Bool). not t && are_numbers (drop (a + 1) (set_fields line))) e)
+  module _ (a : ℕ) (h : a < m) (x : Option ℕ) (given : x ≡ number_of (field_at line (4 + a))) where
+    pub set_read : (next : List ℕ) → next ≡ part (set_at line) a zeros → (v : ℕ) → v ≡ unwrap_or x 0 → set next a v ≡ part (set_at line) (a + 1) zeros
+    set_read next inv v e =
+        ap₂ (λ (y : List ℕ) (z : ℕ). set y a z) inv (e ∙ ap (λ (o : Option ℕ). unwrap_or o 0) given) ∙ part_more (set_at line) a zeros (omega arith)
+
+    module _ (whole numbers : Bool) (inv : whole ≡ (numbers && are_numbers (drop a (set_fields line)))) (none : Bool) (told : is_some x ≡ not none) where
+      behind : are_numbers (drop a (set_fields line)) ≡ (not none && are_numbers (drop (a + 1) (set_fields line)))
+      behind =
+          let e = seen in
+          one_more (drop 4 (fields_of line)) most_labels a (omega arith) (omega arith)
+          ∙ ap₂ (λ (b : Bool) (i : ℕ). b && are_numbers (drop i (set_fields line)))
+          (ap is_number (get_or-drop 4 (fields_of line) a []) ∙ sym (ap is_some given) ∙ told) (sym (add-one a))
+
+      pub numbers_more : none ≡ false → whole ≡ (numbers && are_numbers (drop (a + 1) (set_fields line)))
+      numbers_more e = inv ∙ ap (λ (b : Bool). numbers && b) (behind ∙ ap (λ (t : Bool). not t && are_numbers (drop (a + 1) (set_fields line))) e)
+
+      pub numbers_wrong : none ≡ true → whole ≡ (false && are_numbers (drop (a + 1) (set_fields line)))
+      numbers_wrong e =
+          inv ∙ ap (λ (b : Bool). numbers && b) (behind ∙ ap (λ (t : Bool). not t && are_numbers (drop (a + 1) (set_fields line))) e)
           ∙ and-false numbers
 
-module _ (line : List ℕ) (a : ℕ) (h : a ≤ 16) (k : 16 ≤ a) where
-  pub sets_end : (next : List ℕ) → next ≡ part (set_at line) a zeros → next ≡ next_sets (fields_of line)
-  unfolding next_sets
-  sets_end next inv = let e : a ≡ 16 = omega arith in inv ∙ rw e (part_all (set_at line) 16 zeros (omega arith))
+  module _ (a : ℕ) (h : a ≤ m) (k : m ≤ a) where
+    -- The labels that the line lacks have 0.
+    lacking : (i : ℕ) → a ≤ i → i < most_labels → ◌≡◌ {A = ℕ} (set_at line i) 0
+    unfolding Numbers.decimal
+    lacking i u v = ap value_of (get_or_past (fields_of line) (4 + i) [] (omega arith))
 
-  pub numbers_end : (whole numbers : Bool) → whole ≡ (numbers && are_numbers (drop a (set_fields line))) → numbers ≡ whole
-  numbers_end whole numbers inv = sym (inv ∙ ap (λ (b : Bool). numbers && b) none ∙ and-true numbers)
-    where
-      none : are_numbers (drop a (set_fields line)) ≡ true
-      none = all_passed (drop 4 (fields_of line)) 16 a k
+    pub sets_end : (next : List ℕ) → next ≡ part (set_at line) a zeros → next ≡ next_sets (fields_of line)
+    unfolding next_sets
+    sets_end next inv = inv ∙ sym (part_zeros (set_at line) a most_labels (omega arith) lacking)
 
-pub ruleset sets_kit = (sets_none, set_read, numbers_more, numbers_lacked, numbers_wrong, sets_end, numbers_end)
+    pub numbers_end : (whole numbers : Bool) → whole ≡ (numbers && are_numbers (drop a (set_fields line))) → numbers ≡ whole
+    numbers_end whole numbers inv =
+        let e = seen in
+        sym (inv ∙ ap (λ (b : Bool). numbers && b) (no_more (drop 4 (fields_of line)) most_labels a (omega arith)) ∙ and-true numbers)
+
+pub ruleset sets_kit = (sets_none, set_read, numbers_more, numbers_wrong, sets_end, numbers_end)
 
 -- ---- the whole line
 
 -- The answer in numbers is the one that the definition in numbers gives.
-pub row_judged_said : (labels : ℕ) (before : List Row) (fs : List (List ℕ)) → line_said (row_judged labels before fs) ≡ row_said labels before fs
+pub row_judged_said : (labels : ℕ) (before : List StateLine) (fs : List (List ℕ)) → line_said (row_judged labels before fs) ≡ row_said labels before fs
 unfolding row_judged row_said
 row_judged_said labels before fs =
     go (malformed labels fs) (order_judged before (values_of fs)) (order_said before (row_of fs))
@@ -175,7 +188,7 @@ row_judged_said labels before fs =
     go true x y e = refl
     go false x y e = e
 
-module _ (line other : List ℕ) (same : other ≡ line) (labels : ℕ) (before : List Row) (n : ℕ) (count : n ≡ length (fields_of other)) where
+module _ (line other : List ℕ) (same : other ≡ line) (labels : ℕ) (before : List StateLine) (n : ℕ) (count : n ≡ length (fields_of other)) where
   pub fields_wrong : (n ≡ 4 + labels → ⊥) → Err Malformed ≡ row_judged labels before (fields_of line)
   unfolding row_judged
   fields_wrong h = rw (sym same) (sym (rw (ne_eqb (length (fields_of other)) (4 + labels) (λ e. h (count ∙ e))) refl))
@@ -185,7 +198,7 @@ module _ (line other : List ℕ) (same : other ≡ line) (labels : ℕ) (before 
 
   module _ (few : labels ≤ most_labels) (right : n ≡ 4 + labels) (t : Bool) (told : t ≡ are_numbers (set_fields other)) where
     g : t ≡ are_numbers (drop 4 (fields_of other))
-    g = let l = length-drop 4 (fields_of other) in told ∙ ap are_numbers (take_all 16 (drop 4 (fields_of other)) (omega arith))
+    g = let l = length-drop 4 (fields_of other) in told ∙ ap are_numbers (take_all most_labels (drop 4 (fields_of other)) (omega arith))
 
     counted : eqb (length (fields_of other)) (4 + labels) ≡ true
     counted = eq-eqb (length (fields_of other)) (4 + labels) (sym count ∙ right)

@@ -1,33 +1,23 @@
 // A line below the header: its fields, then what it says.
 #![tactic(auto)]
 
-ghost use Rattle.std.specs.Prelude.{◌≡◌, ◌≤◌, length, take, drop};
+ghost use Rattle.std.specs.Prelude.{◌≡◌, ◌≤◌, take, drop};
 ghost use Rattle.layout.specs.Layout.{most_labels};
 ghost use Rattle.pattern_line.specs.Line.{fields_of, field_at};
-ghost use Rattle.pattern_order.specs.Answers.{line_said, rows_at};
-ghost use Rattle.pattern_row.specs.Fields.{rule_of};
-ghost use Rattle.pattern_row.specs.Answers.{values_read, row_judged, row_said, next_sets};
+ghost use Rattle.pattern_order.specs.inner.Answers.{line_said, rows_at};
+ghost use Rattle.pattern_row.specs.inner.Answers.{values_read, row_judged, row_said, next_sets};
 ghost use Rattle.numbers.specs.Numbers.{number_of};
 ghost use Rattle.numbers.specs.Listed.{are_numbers};
 
 use fields::Fields;
+use layout::PATTERN_FIELDS;
 use pattern_line::refusals::Refusal;
 use pattern_order::{LineValues, judge_values};
-
-fn rule_at(fields: &Fields<24>) -> u16
-    ensures { result ≡ rule_of (field_at fields.now.line.now 1) }
-{
-    match fields.field(1) {
-        b"SOME" => layout::SOME,
-        b"ALL" => layout::ALL,
-        _ => 0,
-    }
-}
 
 // The number in the field with this index, by a call: `numbers::number_at` is put where it is asked, which pays for the four fields of a log's line,
 // and not for the twenty of a row.
 #[inline(never)]
-fn number_at(fields: &Fields<24>, index: usize) -> Option<u16>
+fn number_at(fields: &Fields<PATTERN_FIELDS>, index: usize) -> Option<u16>
     ensures { result ≡ number_of (field_at fields.now.line.now index) }
 {
     numbers::number_at(fields, index)
@@ -35,11 +25,11 @@ fn number_at(fields: &Fields<24>, index: usize) -> Option<u16>
 
 // The numbers among the first four fields, and the rule; none where a number is missing.
 #[tactic(auto, using(crate::proofs::RowLaws::values_kit))]
-fn read_values(fields: &Fields<24>) -> Option<LineValues>
+fn read_values(fields: &Fields<PATTERN_FIELDS>) -> Option<LineValues>
     ensures { result ≡ values_read (fields_of fields.now.line.now) }
 {
     let bead = number_at(fields, 0)?;
-    let rule = rule_at(fields);
+    let rule = rules::rule_of(fields.field(1));
     let state = number_at(fields, 2)?;
     let accepting = number_at(fields, 3)?;
     Some(LineValues {
@@ -50,20 +40,20 @@ fn read_values(fields: &Fields<24>) -> Option<LineValues>
     })
 }
 
-// The next sets: the numbers of the fields after the first four, and 0 for the labels that the line lacks. Each field is read once, so
-// beside them stands: are those that the line has numbers? It counts by an index, since after `iter_mut().enumerate()` nothing is known of
-// the array.
+// The next sets: the numbers of the fields after the first four, and 0 for the labels that the line lacks. Only the fields that are there are
+// looked at, each once, so beside the sets stands: are they numbers? It counts by an index, since after `iter_mut().enumerate()` nothing is
+// known of the array.
 #[tactic(auto, using(crate::proofs::RowLaws::sets_kit))]
-fn read_next(fields: &Fields<24>) -> ([u16; 16], bool)
+fn read_next(fields: &Fields<PATTERN_FIELDS>) -> ([u16; layout::MOST_LABELS], bool)
     ensures sets { result.0 ≡ next_sets (fields_of fields.now.line.now) }
-    ensures numbers { result.1 ≡ are_numbers (take 16 (drop 4 (fields_of fields.now.line.now))) }
+    ensures numbers { result.1 ≡ are_numbers (take most_labels (drop 4 (fields_of fields.now.line.now))) }
 {
     let mut next = [0; layout::MOST_LABELS];
     let mut numbers = true;
-    for a in 0..layout::MOST_LABELS {
+    for a in 0..fields.len().saturating_sub(4).min(layout::MOST_LABELS) {
         let set = number_at(fields, 4 + a);
         next[a] = set.unwrap_or(0);
-        if set.is_none() && 4 + a < fields.len() {
+        if set.is_none() {
             numbers = false;
         }
     }
@@ -83,7 +73,7 @@ pub fn read_row(
     ensures said { line_said result ≡ row_said labels (rows_at last) (fields_of line.now) }
     ensures next_after { next.new ≡ next_sets (fields_of line.now) }
 {
-    let fields: Fields<24> = Fields::split(line);
+    let fields: Fields<PATTERN_FIELDS> = Fields::split(line);
     let (sets, numbers) = read_next(&fields);
     *next = sets;
     if fields.len() != 4 + usize::from(labels) || !numbers {

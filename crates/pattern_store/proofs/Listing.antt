@@ -11,16 +11,22 @@ use Rattle.text.specs.Split.{split}
 use Rattle.text.specs.Lines.{as_lines, printable}
 use Rattle.numbers.specs.Numbers.{digits, value_from, decimal}
 use Rattle.text.specs.Walk.{Outcome, accepted, faulty, walk}
-use Rattle.layout.specs.Layout.{next_at}
+use Rattle.layout.specs.Layout.{sets_begin, next_at}
+use Rattle.rules.specs.Rules.{rules, rule_in, is_rule_in, one_next_in}
 use Rattle.lists.specs.Tables.{table}
 use Rattle.pattern_header.specs.Header.{same_fields, name_bytes, are_names, among, distinct}
-use Rattle.pattern_order.specs.Row.{follows_last, breaks_turns}
+use Rattle.pattern_order.specs.StateLine.{follows_last, breaks_turns}
 use Rattle.pattern_store.specs.Next.{states_of, all_within, all_single}
 use Rattle.pattern_store.specs.Format.{Known, pattern_text}
 use Rattle.pattern_store.specs.Buffer.{bead_count, rule_of_bead, accepting_of, next_of, buffer_of}
 use Rattle.numbers.specs.Listed.{are_numbers}
 
 -- `pattern.txt`, a line of it in each line here
+--     bead rule state final vac hot vent
+--     1 SOME 0 0 3 1 1
+--     1 SOME 1 1 0 0 0
+--     2 ALL 0 1 1 1 2
+--     2 ALL 1 0 2 2 2
 unfoldable pub listing : List ℕ
 listing =
     98 ∷ 101 ∷ 97 ∷ 100 ∷ 32 ∷ 114 ∷ 117 ∷ 108 ∷ 101 ∷ 32 ∷ 115 ∷ 116 ∷ 97 ∷ 116 ∷ 101 ∷ 32 ∷ 102 ∷ 105 ∷ 110 ∷ 97 ∷ 108 ∷ 32 ∷ 118 ∷ 97 ∷ 99 ∷ 32 ∷ 104 ∷ 111 ∷ 116 ∷ 32 ∷ 118 ∷ 101 ∷ 110 ∷ 116 ∷ 10
@@ -41,12 +47,12 @@ listed = record {
 }
 
 pub listing_accepted : pattern_text listing ≡ accepted listed
-unfolding listing listed walk as_lines split printable digits value_from decimal same_fields name_bytes are_names among distinct are_numbers follows_last breaks_turns states_of all_within all_single members_from
+unfolding listing listed walk as_lines split printable digits value_from decimal same_fields name_bytes are_names among distinct are_numbers rules rule_in is_rule_in one_next_in follows_last breaks_turns states_of all_within all_single members_from
 listing_accepted = refl
 
 -- label count, bead count; rules; state counts; final sets
 pub listing_front :
-    take 26 (buffer_of listed)
+    take sets_begin (buffer_of listed)
     ≡ 3 ∷ 2 ∷ 1 ∷ 2 ∷ 0 ∷ 0 ∷ 0 ∷ 0 ∷ 0 ∷ 0 ∷ 2 ∷ 2 ∷ 0 ∷ 0 ∷ 0 ∷ 0 ∷ 0 ∷ 0 ∷ 2 ∷ 1 ∷ 0 ∷ 0 ∷ 0 ∷ 0 ∷ 0 ∷ 0 ∷ []
 unfolding listed table bead_count rule_of_bead states_of accepting_of set_of
 listing_front = refl
@@ -85,6 +91,7 @@ cases =
     }
     -- a field too few
     ∷ record {
+      -- `bead rule state final a\n1 SOME 0 0\n`
       text = 98 ∷ 101 ∷ 97 ∷ 100 ∷ 32 ∷ 114 ∷ 117 ∷ 108 ∷ 101 ∷ 32 ∷ 115 ∷ 116 ∷ 97 ∷ 116 ∷ 101 ∷ 32 ∷ 102 ∷ 105 ∷ 110 ∷ 97 ∷ 108 ∷ 32 ∷ 97 ∷ 10
           ∷ 49 ∷ 32 ∷ 83 ∷ 79 ∷ 77 ∷ 69 ∷ 32 ∷ 48 ∷ 32 ∷ 48 ∷ 10 ∷ [];
       number = 11;
@@ -92,18 +99,21 @@ cases =
     }
     -- no label
     ∷ record {
+      -- `bead rule state final\n`
       text = 98 ∷ 101 ∷ 97 ∷ 100 ∷ 32 ∷ 114 ∷ 117 ∷ 108 ∷ 101 ∷ 32 ∷ 115 ∷ 116 ∷ 97 ∷ 116 ∷ 101 ∷ 32 ∷ 102 ∷ 105 ∷ 110 ∷ 97 ∷ 108 ∷ 10 ∷ [];
       number = 12;
       line = 1;
     }
     -- nothing after the header
     ∷ record {
+      -- `bead rule state final a\n`
       text = 98 ∷ 101 ∷ 97 ∷ 100 ∷ 32 ∷ 114 ∷ 117 ∷ 108 ∷ 101 ∷ 32 ∷ 115 ∷ 116 ∷ 97 ∷ 116 ∷ 101 ∷ 32 ∷ 102 ∷ 105 ∷ 110 ∷ 97 ∷ 108 ∷ 32 ∷ 97 ∷ 10 ∷ [];
       number = 13;
       line = 1;
     }
     -- state 1 before state 0
     ∷ record {
+      -- `bead rule state final a\n1 SOME 1 0 0\n`
       text = 98 ∷ 101 ∷ 97 ∷ 100 ∷ 32 ∷ 114 ∷ 117 ∷ 108 ∷ 101 ∷ 32 ∷ 115 ∷ 116 ∷ 97 ∷ 116 ∷ 101 ∷ 32 ∷ 102 ∷ 105 ∷ 110 ∷ 97 ∷ 108 ∷ 32 ∷ 97 ∷ 10
           ∷ 49 ∷ 32 ∷ 83 ∷ 79 ∷ 77 ∷ 69 ∷ 32 ∷ 49 ∷ 32 ∷ 48 ∷ 32 ∷ 48 ∷ 10 ∷ [];
       number = 13;
@@ -111,6 +121,7 @@ cases =
     }
     -- no such rule
     ∷ record {
+      -- `bead rule state final a\n1 ANY 0 0 0\n`
       text = 98 ∷ 101 ∷ 97 ∷ 100 ∷ 32 ∷ 114 ∷ 117 ∷ 108 ∷ 101 ∷ 32 ∷ 115 ∷ 116 ∷ 97 ∷ 116 ∷ 101 ∷ 32 ∷ 102 ∷ 105 ∷ 110 ∷ 97 ∷ 108 ∷ 32 ∷ 97 ∷ 10
           ∷ 49 ∷ 32 ∷ 65 ∷ 78 ∷ 89 ∷ 32 ∷ 48 ∷ 32 ∷ 48 ∷ 32 ∷ 48 ∷ 10 ∷ [];
       number = 14;
@@ -118,6 +129,7 @@ cases =
     }
     -- the same rule twice
     ∷ record {
+      -- `bead rule state final a\n1 ALL 0 0 1\n2 ALL 0 0 1\n`
       text = 98 ∷ 101 ∷ 97 ∷ 100 ∷ 32 ∷ 114 ∷ 117 ∷ 108 ∷ 101 ∷ 32 ∷ 115 ∷ 116 ∷ 97 ∷ 116 ∷ 101 ∷ 32 ∷ 102 ∷ 105 ∷ 110 ∷ 97 ∷ 108 ∷ 32 ∷ 97 ∷ 10
           ∷ 49 ∷ 32 ∷ 65 ∷ 76 ∷ 76 ∷ 32 ∷ 48 ∷ 32 ∷ 48 ∷ 32 ∷ 49 ∷ 10
           ∷ 50 ∷ 32 ∷ 65 ∷ 76 ∷ 76 ∷ 32 ∷ 48 ∷ 32 ∷ 48 ∷ 32 ∷ 49 ∷ 10 ∷ [];
@@ -126,6 +138,7 @@ cases =
     }
     -- state 1, which the bead lacks
     ∷ record {
+      -- `bead rule state final a\n1 SOME 0 0 0\n2 ALL 0 0 2\n`
       text = 98 ∷ 101 ∷ 97 ∷ 100 ∷ 32 ∷ 114 ∷ 117 ∷ 108 ∷ 101 ∷ 32 ∷ 115 ∷ 116 ∷ 97 ∷ 116 ∷ 101 ∷ 32 ∷ 102 ∷ 105 ∷ 110 ∷ 97 ∷ 108 ∷ 32 ∷ 97 ∷ 10
           ∷ 49 ∷ 32 ∷ 83 ∷ 79 ∷ 77 ∷ 69 ∷ 32 ∷ 48 ∷ 32 ∷ 48 ∷ 32 ∷ 48 ∷ 10
           ∷ 50 ∷ 32 ∷ 65 ∷ 76 ∷ 76 ∷ 32 ∷ 48 ∷ 32 ∷ 48 ∷ 32 ∷ 50 ∷ 10 ∷ [];
@@ -134,6 +147,7 @@ cases =
     }
     -- no next state under ALL
     ∷ record {
+      -- `bead rule state final a\n1 SOME 0 0 0\n2 ALL 0 0 0\n`
       text = 98 ∷ 101 ∷ 97 ∷ 100 ∷ 32 ∷ 114 ∷ 117 ∷ 108 ∷ 101 ∷ 32 ∷ 115 ∷ 116 ∷ 97 ∷ 116 ∷ 101 ∷ 32 ∷ 102 ∷ 105 ∷ 110 ∷ 97 ∷ 108 ∷ 32 ∷ 97 ∷ 10
           ∷ 49 ∷ 32 ∷ 83 ∷ 79 ∷ 77 ∷ 69 ∷ 32 ∷ 48 ∷ 32 ∷ 48 ∷ 32 ∷ 48 ∷ 10
           ∷ 50 ∷ 32 ∷ 65 ∷ 76 ∷ 76 ∷ 32 ∷ 48 ∷ 32 ∷ 48 ∷ 32 ∷ 48 ∷ 10 ∷ [];
@@ -142,6 +156,7 @@ cases =
     }
     -- two next states under ALL
     ∷ record {
+      -- `bead rule state final a\n1 ALL 0 0 1\n1 ALL 1 0 3\n`
       text = 98 ∷ 101 ∷ 97 ∷ 100 ∷ 32 ∷ 114 ∷ 117 ∷ 108 ∷ 101 ∷ 32 ∷ 115 ∷ 116 ∷ 97 ∷ 116 ∷ 101 ∷ 32 ∷ 102 ∷ 105 ∷ 110 ∷ 97 ∷ 108 ∷ 32 ∷ 97 ∷ 10
           ∷ 49 ∷ 32 ∷ 65 ∷ 76 ∷ 76 ∷ 32 ∷ 48 ∷ 32 ∷ 48 ∷ 32 ∷ 49 ∷ 10
           ∷ 49 ∷ 32 ∷ 65 ∷ 76 ∷ 76 ∷ 32 ∷ 49 ∷ 32 ∷ 48 ∷ 32 ∷ 51 ∷ 10 ∷ [];
@@ -151,5 +166,5 @@ cases =
     ∷ []
 
 pub refusals : all_refused cases ≡ true
-unfolding all_refused cases walk as_lines split printable digits value_from decimal same_fields name_bytes are_names among distinct are_numbers follows_last breaks_turns states_of all_within all_single members_from
+unfolding all_refused cases walk as_lines split printable digits value_from decimal same_fields name_bytes are_names among distinct are_numbers rules rule_in is_rule_in one_next_in follows_last breaks_turns states_of all_within all_single members_from
 refusals = refl

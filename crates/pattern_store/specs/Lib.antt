@@ -1,4 +1,4 @@
 pub mod Next
 pub mod Format
 pub mod Buffer
-pub mod Store
+pub mod inner

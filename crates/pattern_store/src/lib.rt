@@ -3,7 +3,7 @@
 #![tactic(auto)]
 
 ghost use Rattle.std.specs.Prelude.{◌≡◌};
-ghost use Rattle.pattern_store.specs.Store.{Storable, accepting_with, stored_values, stored};
+ghost use Rattle.pattern_store.specs.inner.Store.{Storable, accepting_with, stored_values, stored};
 
 use pattern_order::LineValues;
 

@@ -26,16 +26,16 @@ fn bead_ok(pattern: &PatternNumbers, j: usize) -> bool
     let states = pattern.states(j);
     let accepting = pattern.accepting(j);
     if j < pattern.beads() {
-        (layout::SOME..=layout::ALL).contains(&rule)
+        rules::is_rule(rule)
             && turn_ok(pattern, j)
-            && (1..=16).contains(&states)
+            && (1..=layout::MOST_STATES).contains(&usize::from(states))
             && sets::within(accepting, states)
     } else {
         rule == 0 && states == 0 && accepting == 0
     }
 }
 
-// All 8 beads.
+// All beads.
 fn beads_ok(pattern: &PatternNumbers) -> bool
     ensures { result ≡ beads_ok pattern.now }
 {

@@ -8,7 +8,7 @@ use mathlib.Core.List.{List, [], ◌∷◌, ◌++◌, Memᴰ}
 use native.Mathlib.Omega.{arith}
 use borrow.Author.Tests.{ne_eqb, eqb-false, leb-true}
 use lib.Dec.{eqb, leb}
-use lib.ListN.{length, get_or, take, drop, length-drop}
+use lib.ListN.{length, take, drop, length-drop}
 use Rattle.text.proofs.WalkLaws.{accepted_same, walk_nil, walk_step}
 use Rattle.sets.proofs.Truth.{both_true}
 use Rattle.text.specs.Split.{split}
@@ -16,12 +16,12 @@ use Rattle.text.specs.Lines.{TextLine, lines_of, whole}
 use Rattle.text.specs.Walk.{Judged, refused, passed, Outcome, accepted, faulty, walk, bad_size, read_text}
 use Rattle.layout.specs.Layout.{most_line, most_labels, most_pattern_text}
 use Rattle.pattern_header.specs.Header.{columns, same_fields, are_names, distinct, is_header, label_count}
-use Rattle.pattern_order.specs.Row.{Row, disordered, misruled}
+use Rattle.pattern_order.specs.StateLine.{StateLine, disordered, misruled}
 use Rattle.pattern_row.specs.Fields.{row_of, malformed}
 use Rattle.pattern_store.specs.Next.{strays, ambiguous}
 use Rattle.pattern_store.specs.Format.{Known, judge_row, judge_line, pattern_format, judge_next, conclude, pattern_text}
-use Rattle.pattern_texts.proofs.Ordered.{origin, Ordered, start, more}
-use Rattle.pattern_texts.proofs.RowTests.{last_positive, row_out, rule_most, labelled_out}
+use Rattle.pattern_texts.proofs.Ordered.{origin, Ordered, start, more, bead_positive}
+use Rattle.pattern_texts.proofs.RowTests.{row_out, labelled_out}
 
 -- ---- judgements that pass, outcomes that are accepted
 
@@ -43,7 +43,7 @@ passed_same s t e = cc
 -- ---- the lines below the header
 
 -- What is known after a row more.
-abbrev pub known_more : Known → Row → Known
+abbrev pub known_more : Known → StateLine → Known
 known_more k r = record { labels = k.labels; rows = k.rows ++ (r ∷ []) }
 
 row_passes : (k : Known) (fs : List (List ℕ)) (t : Known) → judge_row k fs ≡ passed t
@@ -60,9 +60,9 @@ row_line k n h l t e =
     let w = pass_if (whole most_line l) _ 11 t e in
     rw (ne_eqb n 1 (λ z. omega arith)) at w.1
 
-lines_out : (ls : List TextLine) (k : Known) (p : Row) (n : ℕ) → 2 ≤ n → Ordered k.labels k.rows p → (t : Known)
+lines_out : (ls : List TextLine) (k : Known) (p : StateLine) (n : ℕ) → 2 ≤ n → Ordered k.labels k.rows p → (t : Known)
     → walk judge_line k n ls ≡ accepted t
-    → (t.labels ≡ k.labels) × (q : Row) × Ordered t.labels t.rows q
+    → (t.labels ≡ k.labels) × (q : StateLine) × Ordered t.labels t.rows q
 lines_out [] k p n h o t e =
     let s : k ≡ t = accepted_same k t (sym (walk_nil judge_line k n) ∙ e) in
     (ap (λ (x : Known). x.labels) (sym s), p, subst (λ (x : Known). Ordered x.labels x.rows p) s o)
@@ -70,7 +70,7 @@ lines_out (l ∷ ls) k p n h o t e =
     let w = walk_step judge_line k n l ls t e in
     let fs : List (List ℕ) = split 32 l.bytes in
     let r = row_passes k fs w.0 (row_line k n h l w.0 w.1) in
-    let f = row_out o (row_of fs) (rule_most (get_or fs 1 [])) (labelled_out k.labels fs r.0) r.1 r.2 in
+    let f = row_out o (row_of fs) (labelled_out k.labels fs r.0) r.1 r.2 in
     let more_rows : Ordered k.labels (k.rows ++ (row_of fs ∷ [])) (row_of fs) = more (row_of fs) o f.0 f.1 in
     let u = r.3 in
     let rest = lines_out ls (known_more k (row_of fs)) (row_of fs) (n + 1) (omega arith) more_rows t (rw u w.2) in
@@ -97,8 +97,8 @@ header_labels fs e =
 
 -- ---- 15 and 16, after all lines
 
-next_out : (all rs : List Row) (k : Known) (n : ℕ) (t : Known) → walk (judge_next all) k n rs ≡ accepted t
-    → (k ≡ t) × ((r : Row) → Memᴰ r rs → (strays all r ≡ false) × (ambiguous r ≡ false))
+next_out : (all rs : List StateLine) (k : Known) (n : ℕ) (t : Known) → walk (judge_next all) k n rs ≡ accepted t
+    → (k ≡ t) × ((r : StateLine) → Memᴰ r rs → (strays all r ≡ false) × (ambiguous r ≡ false))
 next_out all [] k n t e = (accepted_same k t (sym (walk_nil (judge_next all) k n) ∙ e), λ r m. absurd (Memᴰ.not-nil m))
 next_out all (s ∷ rs) k n t e =
     let w = walk_step (judge_next all) k n s rs t e in
@@ -108,8 +108,8 @@ next_out all (s ∷ rs) k n t e =
     let rest = next_out all rs k (n + 1) t (rw u w.2) in
     (rest.0, λ r m. go a.0 b.0 rest.1 r (Memᴰ.cases_cons m))
   where
-    go : strays all s ≡ false → ambiguous s ≡ false → ((r : Row) → Memᴰ r rs → (strays all r ≡ false) × (ambiguous r ≡ false))
-        → (r : Row) → (r ≡ s) ⊎ Memᴰ r rs → (strays all r ≡ false) × (ambiguous r ≡ false)
+    go : strays all s ≡ false → ambiguous s ≡ false → ((r : StateLine) → Memᴰ r rs → (strays all r ≡ false) × (ambiguous r ≡ false))
+        → (r : StateLine) → (r ≡ s) ⊎ Memᴰ r rs → (strays all r ≡ false) × (ambiguous r ≡ false)
     go a b rest r (inl d) = rw d (a, b)
     go a b rest r (inr m) = rest r m
 
@@ -119,22 +119,22 @@ next_out all (s ∷ rs) k n t e =
 pub record Sound (k : Known) : Type 0 where
   pub some_label : 1 ≤ k.labels
   pub labels_most : k.labels ≤ most_labels
-  pub last : Row
+  pub last : StateLine
   pub ordered : Ordered k.labels k.rows last
   pub some_row : 0 < last.bead
-  pub next : (r : Row) → Memᴰ r k.rows → (strays k.rows r ≡ false) × (ambiguous r ≡ false)
+  pub next : (r : StateLine) → Memᴰ r k.rows → (strays k.rows r ≡ false) × (ambiguous r ≡ false)
 
 -- Where there is a row, the last row's bead counts from 1.
-last_bead : {c : ℕ} {rs : List Row} {p : Row} → Ordered c rs p → (length rs ≡ 0 → ⊥) → 0 < p.bead
+last_bead : {c : ℕ} {rs : List StateLine} {p : StateLine} → Ordered c rs p → (length rs ≡ 0 → ⊥) → 0 < p.bead
 last_bead start n = absurd (n refl)
-last_bead (more r o f l) n = last_positive r o f l
+last_bead (more r o f l) n = bead_positive f
 
 read_out : (text : List ℕ) (k : Known) → (length k.rows ≡ 0 → ⊥) → read_text pattern_format text ≡ accepted k
-    → (1 ≤ k.labels) × (k.labels ≤ most_labels) × (q : Row) × Ordered k.labels k.rows q
+    → (1 ≤ k.labels) × (k.labels ≤ most_labels) × (q : StateLine) × Ordered k.labels k.rows q
 read_out text k n e = go (lines_of text) (accept_unless (bad_size most_pattern_text text) (walk judge_line pattern_format.start 1 (lines_of text)) 10 0 k e).1
   where
     go : (ls : List TextLine) → walk judge_line pattern_format.start 1 ls ≡ accepted k
-        → (1 ≤ k.labels) × (k.labels ≤ most_labels) × (q : Row) × Ordered k.labels k.rows q
+        → (1 ≤ k.labels) × (k.labels ≤ most_labels) × (q : StateLine) × Ordered k.labels k.rows q
     go [] w =
         let s = accepted_same pattern_format.start k (sym (walk_nil judge_line pattern_format.start 1) ∙ w) in
         absurd (n (ap (λ (x : Known). length x.rows) (sym s)))

@@ -15,14 +15,15 @@ use Rattle.sets.specs.Sets.{member, set_of}
 use Rattle.sets.proofs.Truth.{false_no}
 use Rattle.sets.proofs.Laws.{within_below, set_of_above, member-set_of}
 use Rattle.layout.specs.Layout.{most_beads, most_states, most_labels, rule_at, states_at, accepting_at, next_at, pattern_length}
-use Rattle.pattern_order.specs.Row.{Row}
+use Rattle.pattern_order.specs.StateLine.{StateLine}
 use Rattle.pattern_store.specs.Next.{states_of, all_within}
 use Rattle.pattern_store.specs.Format.{Known}
+use Rattle.pattern_store.proofs.RowsLaws.{rule_absent}
 use Rattle.pattern_store.specs.Buffer.{rule_of_bead, accepting_of, next_of, buffer_of}
 use Rattle.pattern_buffer.specs.Meaning.{labels_in, beads_in}
 use Rattle.pattern_buffer.proofs.Places.{Bead, bead_in, Unused, Next, next_in, Passes}
-use Rattle.pattern_texts.proofs.Rows.{rule_none, Found, found, missing, find}
-use Rattle.pattern_texts.proofs.Ordered.{Told, told}
+use Rattle.pattern_texts.proofs.Rows.{Found, found, missing, find}
+use Rattle.pattern_texts.proofs.Told.{Told, told}
 use Rattle.pattern_texts.proofs.NextSets.{within_out, single_out, not_ambiguous}
 use Rattle.pattern_texts.proofs.Accepted.{Sound}
 use Rattle.pattern_texts.proofs.Buffers.{rule_place, states_place, accepting_place, next_place}
@@ -30,7 +31,7 @@ use Rattle.pattern_texts.proofs.Buffers.{rule_place, states_place, accepting_pla
 -- ---- place by place
 
 module _ (k : Known) (sound : Sound k) (b : List ℕ) (long : pattern_length ≤ length b) (gives : take pattern_length b ≡ buffer_of k) where
-  abbrev rows : List Row
+  abbrev rows : List StateLine
   rows = k.rows
 
   tells : Told k.labels rows sound.last
@@ -60,22 +61,21 @@ module _ (k : Known) (sound : Sound k) (b : List ℕ) (long : pattern_length ≤
     accepting_in : at b (accepting_at j) < 2 ^ at b (states_at j)
     accepting_in =
         rw (place (accepting_at j) (omega arith) ∙ accepting_place k j h, states_are)
-        (within_below (states_of rows (j + 1)) (set_of 16 (accepting_of rows (j + 1))) (λ q t. go q t (find rows (j + 1) q)))
+        (within_below (states_of rows (j + 1)) (set_of most_states (accepting_of rows (j + 1))) (λ q t. go q t (find rows (j + 1) q)))
       where
-        low : (q : ℕ) → T (member q (set_of 16 (accepting_of rows (j + 1)))) → q < 16
-        low q t = lt_of_not-le (λ g. set_of_above 16 (accepting_of rows (j + 1)) q g t)
+        low : (q : ℕ) → T (member q (set_of most_states (accepting_of rows (j + 1)))) → q < most_states
+        low q t = lt_of_not-le (λ g. set_of_above most_states (accepting_of rows (j + 1)) q g t)
 
-        go : (q : ℕ) → T (member q (set_of 16 (accepting_of rows (j + 1)))) → Found rows (j + 1) q → q < states_of rows (j + 1)
+        go : (q : ℕ) → T (member q (set_of most_states (accepting_of rows (j + 1)))) → Found rows (j + 1) q → q < states_of rows (j + 1)
         go q t (found r m e s x y) = let w = (tells.each r m).there in rw (← e, ← s) w
         go q t (missing f x y) =
-            absurd (false_no (accepting_of rows (j + 1) q) x (subst T (member-set_of 16 (accepting_of rows (j + 1)) q (low q t)) t))
+            absurd (false_no (accepting_of rows (j + 1) q) x (subst T (member-set_of most_states (accepting_of rows (j + 1)) q (low q t)) t))
 
     bead_there : j < beads_in b → Bead b j
     bead_there l =
         let low : j + 1 ≤ sound.last.bead = (let z = beads_are in omega arith) in
         record {
-          rule_low = rw rule_are (tells.rule_low (j + 1) (omega arith) low);
-          rule_high = rw rule_are (tells.rule_high (j + 1));
+          rule = rw rule_are (tells.rule_known (j + 1) (omega arith) low);
           turn = λ p e. turns p low e;
           some_state = rw states_are (tells.some (j + 1) (omega arith) low);
           states_most = rw states_are (tells.most (j + 1));
@@ -95,7 +95,7 @@ module _ (k : Known) (sound : Sound k) (b : List ℕ) (long : pattern_length ≤
         let none : states_of rows (j + 1) ≡ 0 = tells.above (j + 1) (let z = beads_are in omega arith) in
         let zero_states : at b (states_at j) ≡ 0 = states_are ∙ none in
         let small : at b (accepting_at j) < 2 ^ 0 = rw zero_states at accepting_in in
-        record { rule = rule_are ∙ rule_none rows (j + 1) none; states = zero_states; accepting = omega arith }
+        record { rule = rule_are ∙ rule_absent rows (j + 1) none; states = zero_states; accepting = omega arith }
 
     module _ (q a : ℕ) (hq : q < most_states) (ha : a < most_labels) where
       next_are : at b (next_at j q a) ≡ next_of rows (j + 1) q a
@@ -118,7 +118,7 @@ module _ (k : Known) (sound : Sound k) (b : List ℕ) (long : pattern_length ≤
               let own : r.rule ≡ at b (rule_at j) = each.rule ∙ ap (rule_of_bead rows) e ∙ sym rule_are in
               record {
                 inside = rw (is, states_are, ← e) (within_out (states_of rows r.bead) r.next w a inside);
-                one = λ two. rw is (single_out r.next (not_ambiguous r (sound.next r m).1 (own ∙ two)) a inside);
+                one = λ asked. rw is (single_out r.next (not_ambiguous r (sound.next r m).1 (rw own asked)) a inside);
               }
 
       next_unused : (at b (states_at j) ≤ q) ⊎ (labels_in b ≤ a) → at b (next_at j q a) ≡ 0

@@ -1,6 +1,7 @@
 pub mod Rows
 pub mod Ordered
 pub mod RowTests
+pub mod Told
 pub mod NextSets
 pub mod Accepted
 pub mod Buffers

@@ -1,22 +1,22 @@
 -- The tests of a line below the header, after rows in order: they pass if and only if the row follows the last one and fits.
-use Prim.Native.Nat.{ℕ, ◌+◌, ◌≤◌, ◌<◌}
+use Prim.Native.Nat.{ℕ, ◌+◌, ◌<◌}
 use mathlib.Core.Path.{◌≡◌, refl, sym, ◌∙◌}
 use mathlib.Core.Logic.{◌⊎◌, inl, inr}
 use mathlib.Core.Bool.{Bool, true, false, not, cond, ◌&&◌, ◌||◌}
-use mathlib.Core.List.Memᴰ
 use mathlib.Core.List.{List, [], ◌∷◌, ◌++◌}
 use native.Mathlib.Omega.{arith}
 use borrow.Author.Tests.{eq-eqb, ne_eqb, lt-ltb, le-ltb, eqb-true, eqb-false, ltb-true, ltb-false, not-false}
-use lib.Dec.{eqb, ltb}
+use lib.Dec.{T, eqb, ltb}
 use lib.ListN.{length, get_or, drop, length-drop, length-map}
-use Rattle.sets.proofs.Truth.{both_true, both_false}
-use Rattle.fields.specs.Fields.{same_bytes}
+use Rattle.rules.specs.Rules.{is_rule}
+use Rattle.sets.proofs.Truth.{yes_true, true_yes, both_true, both_false}
+use Rattle.rules.proofs.RuleLaws.{rule_not_0}
 use Rattle.numbers.specs.Numbers.{is_number, value_of}
 use Rattle.layout.specs.Layout.{most_beads, most_states}
-use Rattle.pattern_order.specs.Row.{Row, follows_last, disordered, breaks_turns, misruled}
-use Rattle.pattern_row.specs.Fields.{rule_of, row_of, malformed}
+use Rattle.pattern_order.specs.StateLine.{StateLine, follows_last, disordered, breaks_turns, misruled}
+use Rattle.pattern_row.specs.Fields.{row_of, malformed}
 use Rattle.numbers.specs.Listed.{are_numbers}
-use Rattle.pattern_texts.proofs.Ordered.{Follows, same_bead, next_bead, Fits, Ordered, start, more, told}
+use Rattle.pattern_texts.proofs.Ordered.{Follows, same_bead, next_bead, Fits, Ordered, start, more, bead_positive}
 
 -- ---- tests as Bools
 
@@ -26,35 +26,35 @@ one_true false b e = inr e
 
 -- ---- after a last row
 
-abbrev step : Row → Row → Bool
+abbrev step : StateLine → StateLine → Bool
 step p r = (eqb r.bead p.bead && eqb r.state (p.state + 1)) || (eqb r.bead (p.bead + 1) && eqb r.state 0)
 
-abbrev breaks : Row → Row → Bool
+abbrev breaks : StateLine → StateLine → Bool
 breaks p r = cond (eqb r.bead p.bead) (not (eqb r.rule p.rule)) (eqb r.rule p.rule)
 
-follows_snoc : (rs : List Row) (p r : Row) → follows_last (rs ++ (p ∷ [])) r ≡ step p r
+follows_snoc : (rs : List StateLine) (p r : StateLine) → follows_last (rs ++ (p ∷ [])) r ≡ step p r
 unfolding follows_last
 follows_snoc [] p r = refl
 follows_snoc (x ∷ []) p r = refl
 follows_snoc (x ∷ (y ∷ ys)) p r = follows_snoc (y ∷ ys) p r
 
-breaks_snoc : (rs : List Row) (p r : Row) → breaks_turns (rs ++ (p ∷ [])) r ≡ breaks p r
+breaks_snoc : (rs : List StateLine) (p r : StateLine) → breaks_turns (rs ++ (p ∷ [])) r ≡ breaks p r
 unfolding breaks_turns
 breaks_snoc [] p r = refl
 breaks_snoc (x ∷ []) p r = refl
 breaks_snoc (x ∷ (y ∷ ys)) p r = breaks_snoc (y ∷ ys) p r
 
-follows_first : (r : Row) → follows_last [] r ≡ (eqb r.bead 1 && eqb r.state 0)
+follows_first : (r : StateLine) → follows_last [] r ≡ (eqb r.bead 1 && eqb r.state 0)
 unfolding follows_last
 follows_first r = refl
 
-breaks_first : (r : Row) → breaks_turns [] r ≡ false
+breaks_first : (r : StateLine) → breaks_turns [] r ≡ false
 unfolding breaks_turns
 breaks_first r = refl
 
 -- ---- what the tests say
 
-step_out : (p r : Row) → 0 < p.bead → step p r ≡ true → breaks p r ≡ false → Follows p r
+step_out : (p r : StateLine) → 0 < p.bead → step p r ≡ true → breaks p r ≡ false → Follows p r
 step_out p r h s b = go (one_true inside next s)
   where
     inside : Bool
@@ -75,76 +75,60 @@ step_out p r h s b = go (one_true inside next s)
         let k : eqb r.rule p.rule ≡ false = rw (ne_eqb r.bead p.bead (λ z. omega arith)) at b in
         next_bead d (eqb-true r.state 0 w.1) (eqb-false r.rule p.rule k)
 
-step_in : (p r : Row) → Follows p r → (step p r ≡ true) × (breaks p r ≡ false)
+step_in : (p r : StateLine) → Follows p r → (step p r ≡ true) × (breaks p r ≡ false)
 step_in p r (same_bead h e q u) =
     (simp (eq-eqb r.bead p.bead e, eq-eqb r.state (p.state + 1) q), simp (eq-eqb r.bead p.bead e, eq-eqb r.rule p.rule u))
 step_in p r (next_bead e q u) =
     let n : eqb r.bead p.bead ≡ false = ne_eqb r.bead p.bead (λ z. omega arith) in
     (simp (n, eq-eqb r.bead (p.bead + 1) e, eq-eqb r.state 0 q), simp (n, ne_eqb r.rule p.rule u))
 
-pub last_positive : {c : ℕ} {rs : List Row} {p : Row} (r : Row) → Ordered c rs p → Follows p r → Fits c r → 0 < r.bead
-last_positive {rs = rs} r o f l = ((told (more r o f l)).each r (Memᴰ.append_right rs (Memᴰ.head refl))).positive
-
-pub follows_out : {c : ℕ} {rs : List Row} {p : Row} → Ordered c rs p → (r : Row) → 1 ≤ r.rule → follows_last rs r ≡ true → breaks_turns rs r ≡ false
+pub follows_out : {c : ℕ} {rs : List StateLine} {p : StateLine} → Ordered c rs p → (r : StateLine) → T (is_rule r.rule) → follows_last rs r ≡ true → breaks_turns rs r ≡ false
     → Follows p r
 follows_out start r h s b =
     let w = both_true (eqb r.bead 1) (eqb r.state 0) (sym (follows_first r) ∙ s) in
-    next_bead (eqb-true r.bead 1 w.0) (eqb-true r.state 0 w.1) (λ z. omega arith)
+    next_bead (eqb-true r.bead 1 w.0) (eqb-true r.state 0 w.1) (rule_not_0 r.rule h)
 follows_out (more {rs = rs} p o f l) r h s b =
-    step_out p r (last_positive p o f l) (sym (follows_snoc rs p r) ∙ s) (sym (breaks_snoc rs p r) ∙ b)
+    step_out p r (bead_positive f) (sym (follows_snoc rs p r) ∙ s) (sym (breaks_snoc rs p r) ∙ b)
 
-pub follows_in : {c : ℕ} {rs : List Row} {p : Row} → Ordered c rs p → (r : Row) → Follows p r → (follows_last rs r ≡ true) × (breaks_turns rs r ≡ false)
+pub follows_in : {c : ℕ} {rs : List StateLine} {p : StateLine} → Ordered c rs p → (r : StateLine) → Follows p r → (follows_last rs r ≡ true) × (breaks_turns rs r ≡ false)
 follows_in start r (same_bead h e q u) = absurd (omega arith)
 follows_in start r (next_bead e q u) = (follows_first r ∙ simp (eq-eqb r.bead 1 e, eq-eqb r.state 0 q), breaks_first r)
 follows_in (more {rs = rs} p o f l) r g = let w = step_in p r g in (follows_snoc rs p r ∙ w.0, breaks_snoc rs p r ∙ w.1)
 
 -- ---- the tests of 13 and 14, after rows in order
 
-pub row_out : {c : ℕ} {rs : List Row} {p : Row} → Ordered c rs p → (r : Row) → r.rule ≤ 2 → length r.next ≡ c → disordered rs r ≡ false
+pub row_out : {c : ℕ} {rs : List StateLine} {p : StateLine} → Ordered c rs p → (r : StateLine) → length r.next ≡ c → disordered rs r ≡ false
     → misruled rs r ≡ false → Follows p r × Fits c r
-row_out {c} {rs} {p} o r h k d m =
+row_out {c} {rs} {p} o r k d m =
     let d1 = both_false (not (follows_last rs r)) (ltb most_beads r.bead || (not (ltb r.state most_states) || ltb 1 r.accepting)) d in
     let d2 = both_false (ltb most_beads r.bead) (not (ltb r.state most_states) || ltb 1 r.accepting) d1.1 in
     let d3 = both_false (not (ltb r.state most_states)) (ltb 1 r.accepting) d2.1 in
-    let m1 = both_false (eqb r.rule 0) (breaks_turns rs r) m in
-    let low : 1 ≤ r.rule = positive r.rule (eqb-false r.rule 0 m1.0) in (
-      follows_out o r low (not-false (follows_last rs r) d1.0) m1.1,
+    let m1 = both_false (not (is_rule r.rule)) (breaks_turns rs r) m in
+    let known : T (is_rule r.rule) = true_yes (is_rule r.rule) (not-false (is_rule r.rule) m1.0) in (
+      follows_out o r known (not-false (follows_last rs r) d1.0) m1.1,
       record {
         bead_most = ltb-false most_beads r.bead d2.0;
         state_most = ltb-true r.state most_states (not-false (ltb r.state most_states) d3.0);
         accepting_most = ltb-false 1 r.accepting d3.1;
-        rule_low = low;
-        rule_high = h;
+        rule_known = known;
         labelled = k;
       },
     )
-  where
-    positive : (n : ℕ) → (n ≡ 0 → ⊥) → 1 ≤ n
-    positive n f = omega arith
 
-pub row_in_order : {c : ℕ} {rs : List Row} {p : Row} → Ordered c rs p → (r : Row) → Follows p r → Fits c r
+pub row_in_order : {c : ℕ} {rs : List StateLine} {p : StateLine} → Ordered c rs p → (r : StateLine) → Follows p r → Fits c r
     → (disordered rs r ≡ false) × (misruled rs r ≡ false)
 row_in_order {c} {rs} {p} o r f l =
-    let w = follows_in o r f in
-    let low = l.rule_low in (
+    let w = follows_in o r f in (
       simp (
         w.0,
         le-ltb most_beads r.bead l.bead_most,
         lt-ltb r.state most_states l.state_most,
         le-ltb 1 r.accepting l.accepting_most,
       ),
-      simp (ne_eqb r.rule 0 (λ e. omega arith), w.1),
+      simp (yes_true (is_rule r.rule) l.rule_known, w.1),
     )
 
 -- ---- the row that a line's fields give
-
-pub rule_most : (f : List ℕ) → rule_of f ≤ 2
-rule_most f = go (same_bytes f (83 ∷ 79 ∷ 77 ∷ 69 ∷ [])) (same_bytes f (65 ∷ 76 ∷ 76 ∷ []))
-  where
-    go : (s t : Bool) → cond s 1 (cond t 2 0) ≤ 2
-    go true t = omega arith
-    go false true = omega arith
-    go false false = omega arith
 
 pub labelled_out : (c : ℕ) (fs : List (List ℕ)) → malformed c fs ≡ false → length (row_of fs).next ≡ c
 labelled_out c fs m =

@@ -7,14 +7,12 @@ use mathlib.Core.List.{List, ◌++◌}
 use native.Mathlib.Omega.{arith}
 use borrow.Author.Tests.{eqb-true}
 use lib.Dec.{T, eqb}
-use lib.ListN.{length}
 use Rattle.sets.specs.Sets.{all_below}
 use Rattle.sets.proofs.Truth.{yes_true, true_yes, both_true}
 use Rattle.sets.proofs.Below.{all_out}
 use Rattle.text.specs.Split.{split, joined}
 use Rattle.text.specs.Lines.{printable, whole}
 use Rattle.text.specs.Walk.{accepted}
-use Rattle.fields.specs.Fields.{same_bytes}
 use Rattle.numbers.specs.Numbers.{spell_in}
 use Rattle.layout.specs.Layout.{most_line, most_labels}
 use Rattle.pattern_header.specs.Header.{columns, same_fields, name_bytes, are_names, among, distinct, is_header, label_count}
@@ -23,7 +21,7 @@ use Rattle.pattern_buffer.specs.Meaning.{labels_in}
 use Rattle.pattern_texts.specs.Spelled.{names_up_to, text_of, Heads}
 use Rattle.pattern_buffer.proofs.Places.{Passes}
 use Rattle.pattern_texts.proofs.FromBuffer.{known}
-use Rattle.pattern_texts.proofs.TextUnder.{under_length, under_accepted}
+use Rattle.pattern_texts.proofs.TextUnder.{under_accepted}
 
 -- ---- the header, for each count of labels
 
@@ -36,14 +34,14 @@ is_whole c = whole most_line (record { bytes = header_bytes c; newline = true })
 abbrev heads : ℕ → Bool
 heads c = is_whole c && (is_header (split 32 (header_bytes c)) && eqb (label_count (split 32 (header_bytes c))) c)
 
-headers_computed : all_below 16 (λ i. heads (i + 1)) ≡ true
+headers_computed : all_below most_labels (λ i. heads (i + 1)) ≡ true
 unfolding all_below joined split names_up_to spell_in printable same_fields name_bytes are_names among distinct
 headers_computed = refl
 
 header_heads : (c : ℕ) → 1 ≤ c → c ≤ most_labels → Heads c (header_bytes c)
 header_heads c low high =
     let z : c - 1 + 1 ≡ c = omega arith in
-    let t = all_out 16 (λ i. heads (i + 1)) (true_yes (all_below 16 (λ i. heads (i + 1))) headers_computed) (c - 1) (omega arith) in
+    let t = all_out most_labels (λ i. heads (i + 1)) (true_yes (all_below most_labels (λ i. heads (i + 1))) headers_computed) (c - 1) (omega arith) in
     let w = both_true (is_whole c) (is_header (split 32 (header_bytes c)) && eqb (label_count (split 32 (header_bytes c))) c)
     (yes_true (heads c) (subst (λ (n : ℕ). T (heads n)) z t)) in
     let v = both_true (is_header (split 32 (header_bytes c))) (eqb (label_count (split 32 (header_bytes c))) c) w.1 in
@@ -54,9 +52,6 @@ header_heads c low high =
 module _ (b : List ℕ) (p : Passes b) where
   header : Heads (labels_in b) (header_bytes (labels_in b))
   header = header_heads (labels_in b) p.some_label p.labels_most
-
-  pub text_length : length (text_of b) ≤ 14065
-  text_length = under_length b p (header_bytes (labels_in b)) header
 
   pub text_accepted : pattern_text (text_of b) ≡ accepted (known b p)
   text_accepted = under_accepted b p (header_bytes (labels_in b)) header

@@ -1,8 +1,7 @@
 -- The rows' lines of a buffer that passes, under any accepted header for as many labels, are an accepted text that says the buffer's rows.
 -- Assumes nothing.
-use Prim.Native.Nat.{ℕ, zero, suc, ◌+◌, ◌-◌, ◌*◌, ◌^◌, ◌≤◌, ◌<◌}
+use Prim.Native.Nat.{ℕ, zero, suc, ◌+◌, ◌*◌, ◌^◌, ◌≤◌, ◌<◌}
 use mathlib.Core.Path.{◌≡◌, refl, sym, ap, ◌∙◌, subst}
-use mathlib.Core.Logic.{◌⊎◌, inl, inr}
 use mathlib.Core.Bool.{true, false, cond}
 use mathlib.Core.List.Memᴰ
 use mathlib.Core.List.{List, [], ◌∷◌, ◌++◌, map, map-append, Memᴰ}
@@ -19,14 +18,14 @@ use Rattle.sets.specs.Sets.{single}
 use Rattle.text.specs.Split.{joined, line_from}
 use Rattle.text.specs.Lines.{TextLine, lines_of, printable}
 use Rattle.text.specs.Walk.{Judged, refused, passed, accepted, walk, read_text}
-use Rattle.layout.specs.Layout.{most_pattern_text, most_line, most_states, rule_at, states_at, next_at}
-use Rattle.pattern_order.specs.Row.{Row, disordered, misruled}
+use Rattle.layout.specs.Layout.{most_pattern_text, most_line, most_states, states_at, next_at}
+use Rattle.pattern_order.specs.StateLine.{StateLine, disordered, misruled}
 use Rattle.pattern_store.specs.Next.{states_of, all_within, strays, ambiguous}
 use Rattle.pattern_row.specs.Fields.{row_of, malformed}
 use Rattle.pattern_store.specs.Format.{Known, judge_row, judge_line, pattern_format, judge_next, conclude, pattern_text}
 use Rattle.lists.specs.Tables.{table}
 use Rattle.pattern_buffer.specs.Meaning.{labels_in, beads_in}
-use Rattle.pattern_texts.specs.Spelled.{row_in, rows_of_bead, rows_of_beads, rows_of, fields_of, row_lines, text_under, Heads}
+use Rattle.pattern_texts.specs.Spelled.{row_in, rows_of_bead, rows_of_beads, state_lines_of, fields_of, row_most, row_lines, text_under, text_most, Heads}
 use Rattle.pattern_buffer.proofs.Places.{Passes, bead_there, next_there}
 use Rattle.pattern_texts.proofs.Ordered.{Ordered, start, more}
 use Rattle.pattern_texts.proofs.RowTests.{row_in_order}
@@ -40,16 +39,16 @@ use Rattle.pattern_texts.proofs.Spelling.{Readable, row_lacks, row_printable, ro
 
 -- ---- the lines of rows
 
-abbrev row_line : Row → TextLine
+abbrev row_line : StateLine → TextLine
 row_line r = record { bytes = joined 32 (fields_of r); newline = true }
 
-rows_lines : (rs : List Row) → lines_of (row_lines rs) ≡ map row_line rs
+rows_lines : (rs : List StateLine) → lines_of (row_lines rs) ≡ map row_line rs
 unfolding row_lines
 rows_lines [] = no_lines
 rows_lines (r ∷ rs) =
     lines_from (fields_of r) (row_lines rs) (row_printable r) ∙ ap (λ (ls : List TextLine). row_line r ∷ ls) (rows_lines rs)
 
-rows_length : (rs : List Row) → ((r : Row) → Memᴰ r rs → Readable r) → length (row_lines rs) ≤ 108 * length rs
+rows_length : (rs : List StateLine) → ((r : StateLine) → Memᴰ r rs → Readable r) → length (row_lines rs) ≤ row_most * length rs
 unfolding row_lines
 rows_length [] f = omega arith
 rows_length (r ∷ rs) f =
@@ -61,15 +60,15 @@ rows_length (r ∷ rs) f =
 
 -- ---- each line passes
 
-judge_fields : (k : Known) (fs : List (List ℕ)) (r : Row) → row_of fs ≡ r → malformed k.labels fs ≡ false → disordered k.rows r ≡ false
+judge_fields : (k : Known) (fs : List (List ℕ)) (r : StateLine) → row_of fs ≡ r → malformed k.labels fs ≡ false → disordered k.rows r ≡ false
     → misruled k.rows r ≡ false → judge_row k fs ≡ passed (known_more k r)
 judge_fields k fs r e m d u =
-    rw m (subst (λ (x : Row). after x ≡ passed (known_more k r)) (sym e) (rw (d, u)))
+    rw m (subst (λ (x : StateLine). after x ≡ passed (known_more k r)) (sym e) (rw (d, u)))
   where
-    after : Row → Judged Known
+    after : StateLine → Judged Known
     after x = cond (disordered k.rows x) (refused 13) (cond (misruled k.rows x) (refused 14) (passed (known_more k x)))
 
-judge_line_lem : (k : Known) (n : ℕ) → 2 ≤ n → (r : Row) → Readable r → length r.next ≡ k.labels → disordered k.rows r ≡ false
+judge_line_lem : (k : Known) (n : ℕ) → 2 ≤ n → (r : StateLine) → Readable r → length r.next ≡ k.labels → disordered k.rows r ≡ false
     → misruled k.rows r ≡ false → judge_line k n (row_line r) ≡ passed (known_more k r)
 judge_line_lem k n h r g l d u =
     let short = length-row r g in
@@ -94,7 +93,7 @@ walk_snoc judge s n (x ∷ ls) l t u e d =
     let z : n + suc (length ls) ≡ n + 1 + length ls = omega arith in
     walk_cons judge s n x (ls ++ (l ∷ [])) ∙ rw w.1 (walk_snoc judge w.0 (n + 1) ls l t u w.2 (rw (← z) d))
 
-rows_walk : {c : ℕ} {rs : List Row} {p : Row} → Ordered c rs p → ((r : Row) → Memᴰ r rs → Readable r)
+rows_walk : {c : ℕ} {rs : List StateLine} {p : StateLine} → Ordered c rs p → ((r : StateLine) → Memᴰ r rs → Readable r)
     → walk judge_line (record { labels = c; rows = [] }) 2 (map row_line rs) ≡ accepted (record { labels = c; rows = rs })
 rows_walk {c} start f = walk_nil judge_line (record { labels = c; rows = [] }) 2
 rows_walk {c} (more {rs = rs} r o fo fi) f =
@@ -107,7 +106,7 @@ rows_walk {c} (more {rs = rs} r o fo fi) f =
 
 -- ---- 15 and 16
 
-next_walk : (all rs : List Row) (k : Known) (n : ℕ) → ((r : Row) → Memᴰ r rs → (strays all r ≡ false) × (ambiguous r ≡ false))
+next_walk : (all rs : List StateLine) (k : Known) (n : ℕ) → ((r : StateLine) → Memᴰ r rs → (strays all r ≡ false) × (ambiguous r ≡ false))
     → walk (judge_next all) k n rs ≡ accepted k
 next_walk all [] k n f = walk_nil (judge_next all) k n
 next_walk all (r ∷ rs) k n f =
@@ -120,7 +119,7 @@ module _ (c : ℕ) (header : List ℕ) (g : Heads c header) where
   header_facts : (leb (length header) most_line ≡ true) × (printable header ≡ true)
   header_facts = both_true (leb (length header) most_line) (printable header) g.whole_passes
 
-  header_short : length header ≤ 240
+  header_short : length header ≤ most_line
   header_short = leb-true (length header) most_line header_facts.0
 
   header_passes : judge_line pattern_format.start 1 (record { bytes = header; newline = true }) ≡ passed (record { labels = c; rows = [] })
@@ -133,7 +132,7 @@ unfolding rows_of_bead
 length_bead b j zero = refl
 length_bead b j (suc n) = length-append (rows_of_bead b j n) (row_in b j n ∷ []) ∙ (let h = length_bead b j n in omega arith)
 
-length_rows : (b : List ℕ) (n : ℕ) → ((j : ℕ) → j < n → at b (states_at j) ≤ most_states) → length (rows_of_beads b n) ≤ 16 * n
+length_rows : (b : List ℕ) (n : ℕ) → ((j : ℕ) → j < n → at b (states_at j) ≤ most_states) → length (rows_of_beads b n) ≤ most_states * n
 unfolding rows_of_beads
 length_rows b zero f = omega arith
 length_rows b (suc n) f =
@@ -143,13 +142,13 @@ length_rows b (suc n) f =
     let a = length-append (rows_of_beads b n) (rows_of_bead b n (at b (states_at n))) in
     omega arith
 
-member-length : {r : Row} {rs : List Row} → Memᴰ r rs → 0 < length rs
+member-length : {r : StateLine} {rs : List StateLine} → Memᴰ r rs → 0 < length rs
 member-length (Memᴰ.head e) = omega arith
 member-length (Memᴰ.tail m) = omega arith
 
 module _ (b : List ℕ) (p : Passes b) where
-  abbrev rows : List Row
-  rows = rows_of b
+  abbrev rows : List StateLine
+  rows = state_lines_of b
 
   abbrev sets : ℕ → ℕ → List ℕ
   sets j q = table (λ a. at b (next_at j q a)) (labels_in b)
@@ -165,23 +164,17 @@ module _ (b : List ℕ) (p : Passes b) where
   row_readable j q h k =
       let g = bead_there b p j h in
       let f = ((rows_told b p).each (row_in b j q) (row_there b p j q (let m = p.beads_most in omega arith) k)).fits in
-      let wide : 2 ^ at b (states_at j) ≤ 2 ^ 16 = pow_mono g.states_most in
+      let wide : 2 ^ at b (states_at j) ≤ 2 ^ most_states = pow_mono g.states_most in
       record {
         bead = let m = f.bead_most in omega arith;
-        rule = rule (at b (rule_at j)) g.rule_low g.rule_high;
+        rule = g.rule;
         state = let m = f.state_most in omega arith;
         accepting = let m = f.accepting_most in omega arith;
         next = under_in 65536 (sets j q) (each_set (λ s. s < 65536) j q (λ a l. (let i = (next_there b p j q a h k l).inside in omega arith)));
         labels = let z = length-table (λ a. at b (next_at j q a)) (labels_in b) in let m = p.labels_most in omega arith;
       }
-    where
-      rule : (n : ℕ) → 1 ≤ n → n ≤ 2 → (n ≡ 1) ⊎ (n ≡ 2)
-      rule zero l m = absurd (omega arith)
-      rule (suc zero) l m = inl refl
-      rule (suc (suc zero)) l m = inr refl
-      rule (suc (suc (suc n))) l m = absurd (omega arith)
 
-  readable : (r : Row) → Memᴰ r rows → Readable r
+  readable : (r : StateLine) → Memᴰ r rows → Readable r
   readable r m = let w = rows_out b (beads_in b) r m in rw w.is (row_readable w.place w.state w.below w.there)
 
   row_next : (j q : ℕ) → j < beads_in b → q < at b (states_at j) → (strays rows (row_in b j q) ≡ false) × (ambiguous (row_in b j q) ≡ false)
@@ -191,10 +184,10 @@ module _ (b : List ℕ) (p : Passes b) where
       (within_in (at b (states_at j)) (sets j q) (each_set (λ s. s < 2 ^ at b (states_at j)) j q (λ a l. (next_there b p j q a h k l).inside)))
       in (
         rw inside,
-        unambiguous (row_in b j q) (λ e. single_in (sets j q) (each_set (λ s. T (single 16 s)) j q (λ a l. (next_there b p j q a h k l).one e))),
+        unambiguous (row_in b j q) (λ e. single_in (sets j q) (each_set (λ s. T (single most_states s)) j q (λ a l. (next_there b p j q a h k l).one e))),
       )
 
-  next_passes : (r : Row) → Memᴰ r rows → (strays rows r ≡ false) × (ambiguous r ≡ false)
+  next_passes : (r : StateLine) → Memᴰ r rows → (strays rows r ≡ false) × (ambiguous r ≡ false)
   next_passes r m = let w = rows_out b (beads_in b) r m in rw w.is (row_next w.place w.state w.below w.there)
 
   some_row : 0 < length rows
@@ -209,8 +202,7 @@ module _ (b : List ℕ) (p : Passes b) where
     sizes : length text ≡ length header + 1 + length (row_lines rows)
     sizes = length-append (header ++ (10 ∷ [])) (row_lines rows) ∙ (let a = length-append header (10 ∷ []) in omega arith)
 
-    -- A header of 241 bytes with its newline, and 128 rows of 108.
-    pub under_length : length text ≤ 14065
+    pub under_length : length text ≤ text_most
     under_length =
         let h = header_short (labels_in b) header g in
         let a = sizes in

@@ -9,49 +9,51 @@ use borrow.Author.Tests.{eqb-true, ne_eqb}
 use lib.Dec.{eqb, leb, leb→le}
 use lib.ListN.{length, get_or, take, drop, length-drop, length-map, get_or-map}
 use lib.Seq.{get_or-drop}
+use Rattle.layout.specs.Layout.{most_labels}
 use Rattle.numbers.specs.Numbers.{value_of, decimal}
 use Rattle.std.specs.Prelude.{Option, Some, None, Result, Ok, Err}
-use Rattle.text.specs.Walk.{refused, passed}
+use Rattle.text.specs.Walk.{refused, passed, answer_says}
 use Rattle.sets.proofs.Truth.{true_yes, and_l, and_r}
 use Rattle.pattern_header.specs.Header.{columns, same_fields, is_header, label_count}
 use Rattle.pattern_store.specs.Format.{Known, judge_header, judge_row}
 use Rattle.pattern_line.specs.Answers.{refusal_number}
 use Rattle.pattern_line.specs.declared.refusals.Refusal.{Refusal}
 use Rattle.pattern_line.specs.declared.refusals.Refusal.TheVariants.{Malformed, Header, Order, Rule as Misruled}
-use Rattle.pattern_order.specs.Row.{Row, follows_last, disordered, misruled}
-use Rattle.pattern_order.specs.Answers.{row_for, order_judged, rows_at}
+use Rattle.pattern_order.specs.StateLine.{StateLine, follows_last, disordered, misruled}
+use Rattle.pattern_order.specs.inner.Answers.{row_for, order_judged, rows_at}
 use Rattle.pattern_order.proofs.OrderLaws.{order_values}
 use Rattle.pattern_row.specs.Fields.{row_of, malformed}
-use Rattle.pattern_row.specs.Answers.{values_of, row_judged, next_sets}
+use Rattle.pattern_row.specs.inner.Answers.{values_of, row_judged, next_sets}
 use Rattle.pattern_walk.specs.Reading.{Begun}
-use Rattle.pattern_header.specs.Answers.{header_judged}
-use Rattle.pattern_store.specs.Store.{Storable, stored, row_stored}
+use Rattle.pattern_header.specs.inner.Answers.{header_judged}
+use Rattle.pattern_store.specs.inner.Store.{Storable, stored, row_stored}
 use Rattle.pattern_order.specs.declared.LineValues.{LineValues}
 use Rattle.lists.proofs.Tables.{length-table, get_or-table}
+use Rattle.layout.specs.Layout.{most_labels}
 use Rattle.pattern_store.proofs.RowsLaws.{last_rows, follows_low, in_order, last_of, follows_last_lem, turns_last, Orderly, Added, added, Sound, sound_more}
 use Rattle.pattern_store.proofs.BufferLaws.{Says}
 
 -- ---- the header
 
-choose_header : (r : Refusal) (x : ℕ) (more : Known) (t : Bool) → Err r ≡ cond t (Ok x) (Err Header) → cond t (passed more) (refused 12) ≡ refused (refusal_number r)
-choose_header r x more true q = let z : ◌≡◌ {A = ℕ} 0 1 = cc in absurd (omega arith)
-choose_header r x more false q = let z : r ≡ Header = cc in ap (λ (s : Refusal). refused (refusal_number s)) (sym z)
+-- How many labels a header names, as what is known after it.
+abbrev pub named : ℕ → Known
+named labels = record { labels = labels; rows = [] }
 
-pub header_refused : (fs : List (List ℕ)) (r : Refusal) → Err r ≡ header_judged fs → judge_header fs ≡ refused (refusal_number r)
+pub header_says : (fs : List (List ℕ)) → answer_says refusal_number named (header_judged fs) ≡ judge_header fs
 unfolding header_judged
-header_refused fs r e = choose_header r (label_count fs) (record { labels = label_count fs; rows = [] }) (is_header fs) e
+header_says fs = go (is_header fs)
+  where
+    go : (t : Bool) → answer_says refusal_number named (cond t (Ok (label_count fs)) (Err Header))
+        ≡ cond t (passed (named (label_count fs))) (refused 12)
+    go true = refl
+    go false = refl
 
--- A header that passes names at most 16 labels.
-pub record HeaderPasses (fs : List (List ℕ)) (count : ℕ) : Type 0 where
-  pub judged : judge_header fs ≡ passed (record { labels = count; rows = [] })
-  pub few : count ≤ 16
-
-pub is_header_few : (fs : List (List ℕ)) → is_header fs ≡ true → label_count fs ≤ 16
+pub is_header_few : (fs : List (List ℕ)) → is_header fs ≡ true → label_count fs ≤ most_labels
 is_header_few fs e =
     let t = true_yes (is_header fs) e in
     let u = and_r (same_fields (take 4 fs) columns) _ t in
     let v = and_r (leb 1 (length (drop 4 fs))) _ u in
-    let w = leb→le (length (drop 4 fs)) 16 (and_l (leb (length (drop 4 fs)) 16) _ v) in
+    let w = leb→le (length (drop 4 fs)) most_labels (and_l (leb (length (drop 4 fs)) most_labels) _ v) in
     let d = length-drop 4 fs in
     omega arith
 
@@ -59,22 +61,23 @@ choose_labels : (c x : ℕ) (t : Bool) → ◌≡◌ {A = Result ℕ Refusal} (O
 choose_labels c x true q = (refl, cc)
 choose_labels c x false q = let z : ◌≡◌ {A = ℕ} 0 1 = cc in absurd (omega arith)
 
-pub header_passes : (fs : List (List ℕ)) (count : ℕ) → Ok count ≡ header_judged fs → HeaderPasses fs count
+-- A header that passes names at most 16 labels.
+pub header_few : (fs : List (List ℕ)) (count : ℕ) → Ok count ≡ header_judged fs → count ≤ most_labels
 unfolding header_judged
-header_passes fs count e =
+header_few fs count e =
     let p = choose_labels count (label_count fs) (is_header fs) e in
     let f = is_header_few fs p.0 in
     let z = p.1 in
-    record { judged = rw (p.0, z) refl; few = omega arith }
+    omega arith
 
 -- ---- a row
 
-abbrev judged_of : ℕ → List Row → List (List ℕ) → Result LineValues Refusal
+abbrev judged_of : ℕ → List StateLine → List (List ℕ) → Result LineValues Refusal
 judged_of labels before fs =
     cond (malformed labels fs) (Err Malformed)
     (cond (disordered before (row_of fs)) (Err Order) (cond (misruled before (row_of fs)) (Err Misruled) (Ok (values_of fs))))
 
-judged_is : (labels : ℕ) (before : List Row) (fs : List (List ℕ)) → row_judged labels before fs ≡ judged_of labels before fs
+judged_is : (labels : ℕ) (before : List StateLine) (fs : List (List ℕ)) → row_judged labels before fs ≡ judged_of labels before fs
 unfolding row_judged order_judged
 judged_is labels before fs =
     let s = order_values before (row_for (values_of fs)) (row_of fs) refl refl refl refl in
@@ -149,28 +152,28 @@ module _ (k : Known) (fs : List (List ℕ)) (p : RowPasses k fs) where
   pub row_sound : Sound k.labels k.rows → Sound k.labels (k.rows ++ (row_of fs ∷ []))
   row_sound s = sound_more k.labels k.rows (row_of fs) s (row_added s.orderly) sets_count
 
--- The 16 numbers read beside a row are its next sets, then zeros.
+-- The numbers read beside a row are its next sets, then zeros.
 value_empty : value_of [] ≡ 0
 unfolding decimal
 value_empty = refl
 
-pub sets_size : (fs : List (List ℕ)) → length (next_sets fs) ≡ 16
+pub sets_size : (fs : List (List ℕ)) → length (next_sets fs) ≡ most_labels
 unfolding next_sets
-sets_size fs = length-table _ 16
+sets_size fs = length-table _ most_labels
 
-pub sets_are : (fs : List (List ℕ)) (a : ℕ) → a < 16 → get_or (next_sets fs) a 0 ≡ get_or (row_of fs).next a 0
+pub sets_are : (fs : List (List ℕ)) (a : ℕ) → a < most_labels → get_or (next_sets fs) a 0 ≡ get_or (row_of fs).next a 0
 unfolding next_sets
 sets_are fs a h =
-    get_or-table _ 16 a h ∙ ap value_of (sym (get_or-drop 4 fs a [])) ∙ sym (get_or-map value_of (drop 4 fs) a [])
+    get_or-table _ most_labels a h ∙ ap value_of (sym (get_or-drop 4 fs a [])) ∙ sym (get_or-map value_of (drop 4 fs) a [])
     ∙ ap (get_or (map value_of (drop 4 fs)) a) value_empty
 
 -- A line that follows is of a bead that is counted from 1.
-follows_begun : (last : Option LineValues) → Begun last → (r : Row) → follows_last (rows_at last) r ≡ true → 1 ≤ r.bead
+follows_begun : (last : Option LineValues) → Begun last → (r : StateLine) → follows_last (rows_at last) r ≡ true → 1 ≤ r.bead
 follows_begun None b r h = follows_low (record { bead = 0; rule = 0; state = 0 }) r h
 follows_begun (Some v) b r h =
     let low = b.bead v refl in
     let n : last_rows (record { bead = v.bead; rule = v.rule; state = v.state }) ≡ rows_at (Some v) = rw (ne_eqb v.bead 0 (λ z. absurd (omega arith))) refl in
-    follows_low (record { bead = v.bead; rule = v.rule; state = v.state }) r (ap (λ (rs : List Row). follows_last rs r) n ∙ h)
+    follows_low (record { bead = v.bead; rule = v.rule; state = v.state }) r (ap (λ (rs : List StateLine). follows_last rs r) n ∙ h)
 
 -- A row that passes keeps the limits of 13.
 pub row_storable : (labels : ℕ) (last : Option LineValues) (fs : List (List ℕ)) (v : LineValues) (a : Result LineValues Refusal) → Begun last

@@ -5,9 +5,9 @@ ghost use Rattle.std.specs.Prelude.{◌≡◌, [], ◌≤◌};
 ghost use Rattle.layout.specs.Layout.{most_labels};
 ghost use Rattle.pattern_line.specs.Line.{fields_of};
 ghost use Rattle.pattern_store.specs.Buffer.{buffer_of};
-ghost use Rattle.pattern_order.specs.Answers.{line_said, rows_at};
-ghost use Rattle.pattern_row.specs.Answers.{row_judged, row_said};
-ghost use Rattle.pattern_store.specs.Store.{row_stored};
+ghost use Rattle.pattern_order.specs.inner.Answers.{line_said, rows_at};
+ghost use Rattle.pattern_row.specs.inner.Answers.{row_judged, row_said};
+ghost use Rattle.pattern_store.specs.inner.Store.{row_stored};
 ghost use Rattle.pattern_walk.specs.Reading.{Begun, HeaderRead, FirstRead, RowsRead};
 
 use pattern_header::read_header;
@@ -16,14 +16,14 @@ use pattern_order::LineValues;
 use pattern_row::read_row;
 use pattern_store::store_row;
 use text::faults::{Fault, in_line};
-use text::lines::whole_line;
+use text::lines::{has_bad_size, whole_line};
 
 // The size, then the first line: how many labels the header names, and where the second line begins.
 #[tactic(auto, using(crate::proofs::LinesLaws::first_kit))]
 pub fn read_first(text: &[u8]) -> Result<(u16, usize), Fault<Refusal>>
     ensures { FirstRead text.now result }
 {
-    if text.is_empty() || text.len() > layout::MOST_PATTERN_TEXT {
+    if has_bad_size(text, layout::MOST_PATTERN_TEXT) {
         return in_line(Err(Refusal::Size), 0);
     }
     let n = in_line(whole_line(text, layout::MOST_LINE, Refusal::Malformed), 1)?;

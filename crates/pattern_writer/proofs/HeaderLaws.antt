@@ -10,6 +10,7 @@ use lib.Dec.{eqb, leb}
 use lib.ListN.{length, take, drop, length-drop, drop_of_length-le}
 use lib.Seq.{length-take-le}
 use Rattle.std.specs.Prelude.{Result, Ok, Err}
+use Rattle.layout.specs.Layout.{most_line}
 use Rattle.text.specs.Split.{split, joined}
 use Rattle.text.specs.Lines.{TextLine, last_line, as_lines, lines_of, line_of, whole}
 use Rattle.text.specs.declared.lines.LineFault.{LineFault}
@@ -20,7 +21,7 @@ use Rattle.text.proofs.WalkLaws.{next_line, stuck_line}
 use Rattle.pattern_line.specs.declared.refusals.Refusal.{Refusal}
 use Rattle.pattern_line.specs.declared.refusals.Refusal.TheVariants.{Header}
 use Rattle.pattern_header.specs.Header.{is_header, label_count}
-use Rattle.pattern_header.specs.Answers.{header_judged}
+use Rattle.pattern_header.specs.inner.Answers.{header_judged}
 use Rattle.pattern_texts.specs.Spelled.{Heads}
 use Rattle.sets.proofs.Truth.{both_true}
 use Rattle.pattern_writer.specs.Writer.{names, one_header, header_fits}
@@ -61,24 +62,24 @@ some_line m h = go (lead_of m)
     go (unended f s) = let r = last m h in (r.0, r.1, s ∙ r.2)
     go (ends n i f s) = (record { bytes = take n m; newline = true }, lines_of (drop (n + 1) m), s)
 
-module _ (c : ℕ) (header : List ℕ) (r : Result ℕ LineFault) (given : r ≡ line_of 240 header) where
+module _ (c : ℕ) (header : List ℕ) (r : Result ℕ LineFault) (given : r ≡ line_of most_line header) where
   pub broken : (f : LineFault) → r ≡ Err f → false ≡ header_fits c header
   unfolding header_fits
   broken f p = go header refl
     where
-      stuck : (l : TextLine) (ls : List TextLine) → whole 240 l ≡ false → false ≡ one_header c (l ∷ ls)
+      stuck : (l : TextLine) (ls : List TextLine) → whole most_line l ≡ false → false ≡ one_header c (l ∷ ls)
       stuck l [] h = rw h refl
       stuck l (m ∷ ls) h = refl
 
       go : (m : List ℕ) → header ≡ m → false ≡ one_header c (lines_of header)
       go [] e = sym (ap (λ (m : List ℕ). one_header c (lines_of m)) e ∙ ap (one_header c) no_lines)
       go (x ∷ xs) e =
-          let s = stuck_line 240 header f (let z = ap length e in omega arith) (sym given ∙ p) in
+          let s = stuck_line most_line header f (let z = ap length e in omega arith) (sym given ∙ p) in
           stuck s.first s.others s.not_whole ∙ sym (ap (one_header c) s.lines)
 
   module _ (n : ℕ) (p : r ≡ Ok n) where
     inside : n < length header
-    inside = (next_line 240 header n (sym given ∙ p)).inside
+    inside = (next_line most_line header n (sym given ∙ p)).inside
 
     pub line_fits : length header < 2 ^ 64 → n + 1 < 2 ^ 64
     line_fits h = let i = inside in omega arith
@@ -95,14 +96,14 @@ module _ (c : ℕ) (header : List ℕ) (r : Result ℕ LineFault) (given : r ≡
     pub more_lines : n + 1 < length header → false ≡ header_fits c header
     unfolding header_fits
     more_lines h =
-        let s = next_line 240 header n (sym given ∙ p) in
+        let s = next_line most_line header n (sym given ∙ p) in
         let o = some_line (drop (n + 1) header) (let d = length-drop (n + 1) header in omega arith) in
         sym (ap (one_header c) (s.lines ∙ ap (λ (ls : List TextLine). line ∷ ls) o.2))
 
     pub one_line : (t : Bool) → length header ≤ n + 1 → t ≡ names c (take n header) → t ≡ header_fits c header
     unfolding header_fits
     one_line t h e =
-        let s = next_line 240 header n (sym given ∙ p) in
+        let s = next_line most_line header n (sym given ∙ p) in
         e
         ∙ sym (ap (one_header c) (s.lines ∙ ap (λ (ls : List TextLine). line ∷ ls) (ap lines_of (drop_of_length-le header h) ∙ no_lines))
         ∙ rw s.whole_passes refl)
@@ -122,12 +123,12 @@ unfolding as_lines joined
 parts_headed c [] e = let z : ◌≡◌ {A = ℕ} 0 1 = cc in absurd (omega arith)
 parts_headed c ([] ∷ []) e = let z : ◌≡◌ {A = ℕ} 0 1 = cc in absurd (omega arith)
 parts_headed c ((x ∷ p) ∷ []) e =
-    let w = both_true (whole 240 (record { bytes = x ∷ p; newline = false })) (names c (x ∷ p)) e in
-    let v = both_true (leb (length (x ∷ p)) 240) false w.0 in
+    let w = both_true (whole most_line (record { bytes = x ∷ p; newline = false })) (names c (x ∷ p)) e in
+    let v = both_true (leb (length (x ∷ p)) most_line) false w.0 in
     let z : ◌≡◌ {A = ℕ} 0 1 = cc in
     absurd (omega arith)
 parts_headed c (p ∷ ([] ∷ [])) e =
-    let w = both_true (whole 240 (record { bytes = p; newline = true })) (names c p) e in
+    let w = both_true (whole most_line (record { bytes = p; newline = true })) (names c p) e in
     let v = both_true (is_header (split 32 p)) (eqb (label_count (split 32 p)) c) w.1 in
     record {
       line = p;

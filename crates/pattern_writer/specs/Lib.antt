@@ -1,2 +1,2 @@
 pub mod Writer
-pub mod Tested
+pub mod inner

@@ -5,7 +5,7 @@ ghost use Rattle.std.specs.Prelude.{◌<◌, ◌≡◌, true, length};
 ghost use Rattle.writing.specs.Put.{Put};
 ghost use Rattle.pattern_buffer.specs.Meaning.{labels_in};
 ghost use Rattle.pattern_writer.specs.Writer.{names, header_fits, written, room_faults, test_faults, write_answer, text_after};
-ghost use Rattle.pattern_writer.specs.Tested.{answer_under, text_under_faults};
+ghost use Rattle.pattern_writer.specs.inner.Tested.{answer_under, text_under_faults};
 
 use answer::Answer;
 use pattern_byte::header_byte;

@@ -1,7 +1,6 @@
 // A pattern's room, and the header that is written with it.
 use answer::Answer;
-use places::PatternRoom;
-use random_inputs::{add_power, draw_pattern, reduced};
+use random_inputs::{PatternRoom, add_power, draw_pattern, reduced};
 use std::alloc::{AllocError, Global};
 use std::fmt::Write;
 use text_changes::Text;

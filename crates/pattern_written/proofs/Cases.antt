@@ -8,6 +8,7 @@ use lib.Dec.{ltb}
 use lib.ListN.{length, take, replicate, length-append}
 use lib.Seq.{take_at, take_all}
 use native.Mathlib.Omega.{arith}
+use Rattle.rules.specs.Rules.{rules, rule_in, is_rule_in, word_in, one_next_in}
 use Rattle.sets.specs.Sets.{set_of, members_from}
 use Rattle.sets.proofs.Truth.{yes_true}
 use Rattle.lists.specs.Tables.{table}
@@ -17,18 +18,17 @@ use Rattle.answer.specs.Faults.{Fault, when, first_fault, answer_or, kept_or}
 use Rattle.text.specs.Split.{split, joined}
 use Rattle.text.specs.Lines.{as_lines, printable}
 use Rattle.text.specs.Walk.{accepted, walk}
-use Rattle.fields.specs.Fields.{same_bytes}
 use Rattle.numbers.specs.Numbers.{digits, value_from, decimal, spell_in}
 use Rattle.numbers.specs.Listed.{are_numbers}
 use Rattle.layout.specs.Layout.{pattern_length}
 use Rattle.pattern_header.specs.Header.{same_fields, name_bytes, are_names, among, distinct}
-use Rattle.pattern_order.specs.Row.{follows_last, breaks_turns}
+use Rattle.pattern_order.specs.StateLine.{follows_last, breaks_turns}
 use Rattle.pattern_store.specs.Next.{states_of, all_within, all_single}
 use Rattle.pattern_store.specs.Format.{Known, pattern_text}
 use Rattle.pattern_store.specs.Buffer.{bead_count, rule_of_bead, accepting_of, next_of, buffer_of}
 use Rattle.pattern_buffer.specs.Meaning.{labels_in}
 use Rattle.pattern_buffer.specs.Valid.{is_pattern}
-use Rattle.pattern_texts.specs.Spelled.{rows_of_bead, rows_of_beads, rows_of, row_lines}
+use Rattle.pattern_texts.specs.Spelled.{rows_of_bead, rows_of_beads, state_lines_of, row_lines}
 use Rattle.pattern_texts.proofs.Buffers.{length_buffer}
 use Rattle.pattern_texts.proofs.PatternBuffers.{pattern_buffers}
 use Rattle.lists.specs.Leftmost.{leftmost_from}
@@ -61,7 +61,7 @@ two = record {
 }
 
 reads : pattern_text (header ++ lines) ≡ accepted two
-unfolding header lines walk as_lines split printable digits value_from decimal same_fields name_bytes are_names among distinct follows_last breaks_turns states_of all_within all_single members_from are_numbers
+unfolding header lines walk as_lines split printable digits value_from decimal same_fields name_bytes are_names among distinct rules rule_in is_rule_in one_next_in follows_last breaks_turns states_of all_within all_single members_from are_numbers
 reads = refl
 
 -- ---- what the answer depends on
@@ -78,7 +78,7 @@ facts_of pattern = record {
   size = length pattern;
   is = is_pattern (take pattern_length pattern);
   labels = labels_in (take pattern_length pattern);
-  rows = row_lines (rows_of (take pattern_length pattern));
+  rows = row_lines (state_lines_of (take pattern_length pattern));
 }
 
 abbrev pub faults_by : Facts → List ℕ → List ℕ → List Fault
@@ -113,12 +113,12 @@ pub data Kind : Type 0 where
 -- The pattern's numbers, and a number past them; zeros; one number too few.
 abbrev pub buffer_by : Kind → List ℕ
 buffer_by right = buffer_of two ++ (7 ∷ [])
-buffer_by wrong = replicate 2074 0
+buffer_by wrong = replicate pattern_length 0
 buffer_by small = replicate 2073 0
 
 abbrev pub facts_by : Kind → Facts
 facts_by right = record { size = 2075; is = true; labels = 1; rows = lines }
-facts_by wrong = record { size = 2074; is = false; labels = 0; rows = [] }
+facts_by wrong = record { size = pattern_length; is = false; labels = 0; rows = [] }
 facts_by small = record { size = 2073; is = false; labels = 0; rows = [] }
 
 front : take pattern_length (buffer_of two ++ (7 ∷ [])) ≡ buffer_of two
@@ -136,8 +136,8 @@ right_is =
       gives = take_all pattern_length (buffer_of two) (let h = length_buffer two in omega arith);
     }))
 
-right_rows : row_lines (rows_of (buffer_of two)) ≡ lines
-unfolding lines row_lines rows_of_bead rows_of_beads joined spell_in table set_of bead_count rule_of_bead accepting_of next_of states_of
+right_rows : row_lines (state_lines_of (buffer_of two)) ≡ lines
+unfolding lines row_lines rows_of_bead rows_of_beads rules word_in joined spell_in table set_of bead_count rule_of_bead accepting_of next_of states_of
 right_rows = refl
 
 abbrev told : ℕ → Bool → ℕ → List ℕ → Facts
@@ -147,9 +147,9 @@ facts_right : facts_of (buffer_by right) ≡ facts_by right
 facts_right =
     let b = buffer_of two ++ (7 ∷ []) in
     let n : length b ≡ 2075 = length-append (buffer_of two) (7 ∷ []) ∙ (let h = length_buffer two in omega arith) in
-    ap (λ (m : ℕ). told m (is_pattern (take pattern_length b)) (labels_in (take pattern_length b)) (row_lines (rows_of (take pattern_length b)))) n
-    ∙ ap (λ (t : List ℕ). told 2075 (is_pattern t) (labels_in t) (row_lines (rows_of t))) front
-    ∙ ap (λ (i : Bool). told 2075 i 1 (row_lines (rows_of (buffer_of two)))) right_is
+    ap (λ (m : ℕ). told m (is_pattern (take pattern_length b)) (labels_in (take pattern_length b)) (row_lines (state_lines_of (take pattern_length b)))) n
+    ∙ ap (λ (t : List ℕ). told 2075 (is_pattern t) (labels_in t) (row_lines (state_lines_of t))) front
+    ∙ ap (λ (i : Bool). told 2075 i 1 (row_lines (state_lines_of (buffer_of two)))) right_is
     ∙ ap (told 2075 true 1) right_rows
 
 facts : (k : Kind) → facts_of (buffer_by k) ≡ facts_by k
@@ -180,19 +180,32 @@ unfoldable pub faulty : List Faulty
 faulty =
     at 0 ([])  -- nothing
     ∷ at 1 (10 ∷ [])  -- a newline alone
+    -- `bead rule state final a`
     ∷ at 0 (98 ∷ 101 ∷ 97 ∷ 100 ∷ 32 ∷ 114 ∷ 117 ∷ 108 ∷ 101 ∷ 32 ∷ 115 ∷ 116 ∷ 97 ∷ 116 ∷ 101 ∷ 32 ∷ 102 ∷ 105 ∷ 110 ∷ 97 ∷ 108 ∷ 32 ∷ 97 ∷ [])  -- no newline
+    -- `\nbead rule state final a\n`
     ∷ at 0 (10 ∷ 98 ∷ 101 ∷ 97 ∷ 100 ∷ 32 ∷ 114 ∷ 117 ∷ 108 ∷ 101 ∷ 32 ∷ 115 ∷ 116 ∷ 97 ∷ 116 ∷ 101 ∷ 32 ∷ 102 ∷ 105 ∷ 110 ∷ 97 ∷ 108 ∷ 32 ∷ 97 ∷ 10 ∷ [])  -- a newline first
+    -- `bead rule state final a\n\n`
     ∷ at 0 (98 ∷ 101 ∷ 97 ∷ 100 ∷ 32 ∷ 114 ∷ 117 ∷ 108 ∷ 101 ∷ 32 ∷ 115 ∷ 116 ∷ 97 ∷ 116 ∷ 101 ∷ 32 ∷ 102 ∷ 105 ∷ 110 ∷ 97 ∷ 108 ∷ 32 ∷ 97 ∷ 10 ∷ 10 ∷ [])  -- two newlines
+    -- `bead rule state final a\n1 SOME 0 1 1\n`
     ∷ at 0 (98 ∷ 101 ∷ 97 ∷ 100 ∷ 32 ∷ 114 ∷ 117 ∷ 108 ∷ 101 ∷ 32 ∷ 115 ∷ 116 ∷ 97 ∷ 116 ∷ 101 ∷ 32 ∷ 102 ∷ 105 ∷ 110 ∷ 97 ∷ 108 ∷ 32 ∷ 97 ∷ 10 ∷ 49 ∷ 32 ∷ 83 ∷ 79 ∷ 77 ∷ 69 ∷ 32 ∷ 48 ∷ 32 ∷ 49 ∷ 32 ∷ 49 ∷ 10 ∷ [])  -- a second line
+    -- `bead rule state final a\na`
     ∷ at 0 (98 ∷ 101 ∷ 97 ∷ 100 ∷ 32 ∷ 114 ∷ 117 ∷ 108 ∷ 101 ∷ 32 ∷ 115 ∷ 116 ∷ 97 ∷ 116 ∷ 101 ∷ 32 ∷ 102 ∷ 105 ∷ 110 ∷ 97 ∷ 108 ∷ 32 ∷ 97 ∷ 10 ∷ 97 ∷ [])  -- a byte behind the line
+    -- `bead rule state final a\r\n`
     ∷ at 24 (98 ∷ 101 ∷ 97 ∷ 100 ∷ 32 ∷ 114 ∷ 117 ∷ 108 ∷ 101 ∷ 32 ∷ 115 ∷ 116 ∷ 97 ∷ 116 ∷ 101 ∷ 32 ∷ 102 ∷ 105 ∷ 110 ∷ 97 ∷ 108 ∷ 32 ∷ 97 ∷ 13 ∷ 10 ∷ [])  -- a carriage return
+    -- `bead\trule state final a\n`
     ∷ at 5 (98 ∷ 101 ∷ 97 ∷ 100 ∷ 9 ∷ 114 ∷ 117 ∷ 108 ∷ 101 ∷ 32 ∷ 115 ∷ 116 ∷ 97 ∷ 116 ∷ 101 ∷ 32 ∷ 102 ∷ 105 ∷ 110 ∷ 97 ∷ 108 ∷ 32 ∷ 97 ∷ 10 ∷ [])  -- a tab
+    -- `bead rule state final a\127\n`
     ∷ at 24 (98 ∷ 101 ∷ 97 ∷ 100 ∷ 32 ∷ 114 ∷ 117 ∷ 108 ∷ 101 ∷ 32 ∷ 115 ∷ 116 ∷ 97 ∷ 116 ∷ 101 ∷ 32 ∷ 102 ∷ 105 ∷ 110 ∷ 97 ∷ 108 ∷ 32 ∷ 97 ∷ 127 ∷ 10 ∷ [])  -- byte 127
     ∷ at 0 (replicate 241 97 ++ (10 ∷ []))  -- 241 bytes before the newline
+    -- `bead rule state a\n`
     ∷ at 17 (98 ∷ 101 ∷ 97 ∷ 100 ∷ 32 ∷ 114 ∷ 117 ∷ 108 ∷ 101 ∷ 32 ∷ 115 ∷ 116 ∷ 97 ∷ 116 ∷ 101 ∷ 32 ∷ 97 ∷ 10 ∷ [])  -- three names of columns
+    -- `bead rule state final\n`
     ∷ at 0 (98 ∷ 101 ∷ 97 ∷ 100 ∷ 32 ∷ 114 ∷ 117 ∷ 108 ∷ 101 ∷ 32 ∷ 115 ∷ 116 ∷ 97 ∷ 116 ∷ 101 ∷ 32 ∷ 102 ∷ 105 ∷ 110 ∷ 97 ∷ 108 ∷ 10 ∷ [])  -- no label
+    -- `Bead rule state final a\n`
     ∷ at 1 (66 ∷ 101 ∷ 97 ∷ 100 ∷ 32 ∷ 114 ∷ 117 ∷ 108 ∷ 101 ∷ 32 ∷ 115 ∷ 116 ∷ 97 ∷ 116 ∷ 101 ∷ 32 ∷ 102 ∷ 105 ∷ 110 ∷ 97 ∷ 108 ∷ 32 ∷ 97 ∷ 10 ∷ [])  -- `Bead`
+    -- `bead rule state final a b\n`
     ∷ at 0 (98 ∷ 101 ∷ 97 ∷ 100 ∷ 32 ∷ 114 ∷ 117 ∷ 108 ∷ 101 ∷ 32 ∷ 115 ∷ 116 ∷ 97 ∷ 116 ∷ 101 ∷ 32 ∷ 102 ∷ 105 ∷ 110 ∷ 97 ∷ 108 ∷ 32 ∷ 97 ∷ 32 ∷ 98 ∷ 10 ∷ [])  -- one label more than the pattern has
+    -- `bead rule state final a a\n`
     ∷ at 25 (98 ∷ 101 ∷ 97 ∷ 100 ∷ 32 ∷ 114 ∷ 117 ∷ 108 ∷ 101 ∷ 32 ∷ 115 ∷ 116 ∷ 97 ∷ 116 ∷ 101 ∷ 32 ∷ 102 ∷ 105 ∷ 110 ∷ 97 ∷ 108 ∷ 32 ∷ 97 ∷ 32 ∷ 97 ∷ 10 ∷ [])  -- a label twice
     ∷ []
 

@@ -24,11 +24,11 @@ use Rattle.pattern.specs.Answer.{answer_of, filled_by, host_faults, pattern_answ
 use Rattle.pattern_buffer.specs.Meaning.{labels_in, beads_in}
 use Rattle.pattern_buffer.specs.Valid.{is_pattern}
 use Rattle.pattern_buffer.proofs.Places.{passes_out}
-use Rattle.pattern_texts.specs.Spelled.{rows_of}
+use Rattle.pattern_texts.specs.Spelled.{state_lines_of, text_most}
 use Rattle.pattern_texts.proofs.TextUnder.{under_accepted}
 use Rattle.pattern_texts.proofs.PatternBuffers.{text_gives}
 use Rattle.pattern_writer.specs.Writer.{header_fits, written, pattern_written, room_faults, test_faults, write_faults, write_answer, accepts, in_front, text_after}
-use Rattle.pattern_writer.specs.Tested.{Tested}
+use Rattle.pattern_writer.specs.inner.Tested.{Tested}
 use Rattle.pattern_written.specs.ReadBack.{ReadBack}
 use Rattle.pattern_writer.proofs.HeaderLaws.{headed}
 use Rattle.pattern_writer.proofs.WriteLaws.{written_length}
@@ -66,7 +66,7 @@ module _ (pattern header text : List ℕ) (a : T (accepts pattern header text)) 
       ∙ take_at (pattern_written header pattern) (drop (length (pattern_written header pattern)) text) (length (pattern_written header pattern)) refl
 
   -- The count is at most 65,535: a u16 holds it.
-  pub written_fits : (length (pattern_written header pattern) ≤ 14065) × ((write_answer pattern header text).count ≤ 65535)
+  pub written_fits : (length (pattern_written header pattern) ≤ text_most) × ((write_answer pattern header text).count ≤ 65535)
   written_fits =
       let h = written_length b header tested.pattern_passes tested.fits in
       let c : (write_answer pattern header text).count ≡ length (pattern_written header pattern) = ap (λ (r : Answer). r.count) counts in
@@ -75,7 +75,7 @@ module _ (pattern header text : List ℕ) (a : T (accepts pattern header text)) 
   -- ---- what the reader reads
 
   abbrev known : Known
-  known = record { labels = labels_in b; rows = rows_of b }
+  known = record { labels = labels_in b; rows = state_lines_of b }
 
   reads : pattern_text (pattern_written header pattern) ≡ accepted known
   unfolding written

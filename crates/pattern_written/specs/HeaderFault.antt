@@ -1,5 +1,5 @@
--- Where a header text that the writer refuses with 12 is at fault, in the words of Ask 2's table: one case for each rank, with its byte. Each denies the
--- ranks above it; a byte that is not 0 is the place of what is at fault, the leftmost of its rank.
+-- Where a header text that the writer refuses with 12 is at fault, in the words of Ask 2's table: one case for each rank, with its byte. Each denies
+-- the ranks above it; a byte that is not 0 is the place of what is at fault, the leftmost of its rank.
 use Rattle.std.specs.Prelude.{ℕ, ◌≤◌, ◌<◌, ◌≡◌, true, false, List, [], ◌∷◌, length}
 use Rattle.text.specs.Split.{split}
 use Rattle.text.specs.Lines.{TextLine, lines_of, whole}

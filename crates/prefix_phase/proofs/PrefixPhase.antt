@@ -22,6 +22,7 @@ use Rattle.necklace.specs.Dag.{Dag}
 use Rattle.necklace.specs.Necklace.{Pattern}
 use Rattle.necklace.specs.Compute.{holds?, serves?, prefixes}
 use Rattle.necklace.proofs.RowMeaning.{prefixes_member, prefixes_below}
+use Rattle.layout.specs.Layout.{set_width}
 use Rattle.marking.specs.Marking.{Added}
 use Rattle.serving.specs.Serving.{serves_in}
 use Rattle.prefix_phase.specs.Marked.{MarkedUpTo}
@@ -41,14 +42,14 @@ module _ (G : Dag) (P : Pattern) (n : ℕ) (marks : List ℕ) where
   }
 
   -- a bead whose turns are all made
-  pub marked_whole : (i : ℕ) → MarkedUpTo G P n i marks → (k v : ℕ) → k < 16 → v < n → k * n + v < i → member k (get_or marks v 0) ≡ holds? G P (suc k) v
+  pub marked_whole : (i : ℕ) → MarkedUpTo G P n i marks → (k v : ℕ) → k < set_width → v < n → k * n + v < i → member k (get_or marks v 0) ≡ holds? G P (suc k) v
   unfolding holds?
   marked_whole i m k v h l g =
       let e : min (i - k * n) (suc v) ≡ suc v = omega arith in
       m.marks k v h l ∙ ap (λ (x : ℕ). some_below x (serves? G P k v)) e
 
   -- and one that has had none
-  pub marked_not_yet : (i : ℕ) → MarkedUpTo G P n i marks → (k v : ℕ) → k < 16 → v < n → i ≤ k * n → member k (get_or marks v 0) ≡ false
+  pub marked_not_yet : (i : ℕ) → MarkedUpTo G P n i marks → (k v : ℕ) → k < set_width → v < n → i ≤ k * n → member k (get_or marks v 0) ≡ false
   marked_not_yet i m k v h l g =
       let e : min (i - k * n) (suc v) ≡ 0 = omega arith in
       m.marks k v h l ∙ ap (λ (x : ℕ). some_below x (serves? G P k v)) e ∙ some_below_none (serves? G P k v)
@@ -112,7 +113,7 @@ module _ (G : Dag) (P : Pattern) (n i : ℕ) (marks new : List ℕ) (m : MarkedU
   pub marked_turn : MarkedUpTo G P n i' new
   marked_turn = record { few = a.few m.few; marks = λ j v h l. a.sets j v h ∙ go j v h l (ℕ_discrete j k) }
     where
-      go : (j v : ℕ) → j < 16 → v < n → Dec (j ≡ k)
+      go : (j v : ℕ) → j < set_width → v < n → Dec (j ≡ k)
           → (member j (get_or marks v 0) || (eqb j k && (leb from v && (ltb v n && serves_in G P k from to v)))) ≡ some_below (min (i' - j * n) (suc v)) (serves? G P j v)
       go j v h l (yes e) =
           rw (eq-eqb j k e)
@@ -122,12 +123,12 @@ module _ (G : Dag) (P : Pattern) (n i : ℕ) (marks new : List ℕ) (m : MarkedU
           (or-false (member j (get_or marks v 0)) ∙ m.marks j v h l ∙ ap (λ (x : ℕ). some_below x (serves? G P j v)) (other j v l e (dec_lt j k)))
 
 -- After all turns the marks of a vertex are its set of prefixes.
-pub marked_all : (G : Dag) (P : Pattern) (n i : ℕ) (marks : List ℕ) → P.count ≤ 16 → i ≡ P.count * n → MarkedUpTo G P n i marks
+pub marked_all : (G : Dag) (P : Pattern) (n i : ℕ) (marks : List ℕ) → P.count ≤ set_width → i ≡ P.count * n → MarkedUpTo G P n i marks
     → (v : ℕ) → v < n → get_or marks v 0 ≡ prefixes G P v
 marked_all G P n i marks few e m v l =
-    ext 16 (get_or marks v 0) (prefixes G P v) (m.few v) (lt_of_lt_of_le (prefixes_below G P v) (pow_mono few)) (λ k h. same k h (dec_lt k P.count))
+    ext set_width (get_or marks v 0) (prefixes G P v) (m.few v) (lt_of_lt_of_le (prefixes_below G P v) (pow_mono few)) (λ k h. same k h (dec_lt k P.count))
   where
-    same : (k : ℕ) → k < 16 → Dec (k < P.count) → member k (get_or marks v 0) ≡ member k (prefixes G P v)
+    same : (k : ℕ) → k < set_width → Dec (k < P.count) → member k (get_or marks v 0) ≡ member k (prefixes G P v)
     same k h (yes c) =
         let q : k * n + v < i = rw e (digits_lt c l) in
         marked_whole G P n marks i m k v h l q ∙ sym (prefixes_member G P v k c)

@@ -1,12 +1,13 @@
 // The first phase, beads upwards: at which steps each prefix of the pattern holds.
-// Rooms are slices of at least so many numbers, as each contract says: an array, or a struct with the bound, would take fewer or be made anew at each call.
+// Rooms are slices of at least so many numbers, as each contract says: an array, or a struct with the bound, would take fewer or be made anew at
+// each call.
 #![tactic(auto)]
 
 ghost use Rattle.std.specs.Prelude.{◌≡◌, ◌+◌, ◌<◌, ◌≤◌, length};
 ghost use Rattle.layout.specs.Layout.{most_steps, work_length};
 ghost use Rattle.log_buffer.specs.Meaning.{steps_in};
 ghost use Rattle.pattern_buffer.specs.Meaning.{beads_in};
-ghost use Rattle.prefix_phase.specs.Marked.{Tried, Unmarked};
+ghost use Rattle.prefix_phase.specs.Marked.{Tested, Unmarked};
 
 use serving::Course;
 
@@ -14,15 +15,14 @@ use serving::Course;
 #[derive(Clone, Copy)]
 pub struct Case<'a> {
     pub course: Course<'a>,
-    ghost tried: { Tried course.pattern.now course.log.numbers.now },
+    ghost tested: { Tested course.pattern.now course.log.numbers.now course.log.labels.now },
 }
 
 impl<'a> Case<'a> {
     ghost use Rattle.serving.specs.Going.{AskedOf};
-    ghost use Rattle.prefix_phase.specs.Cases.{MadeBy, MarkedBy, MarksOf};
+    ghost use Rattle.prefix_phase.specs.Cases.{MadeBy, MarkedBy, PrefixesMarkedBy};
 
     // How many beads the pattern has.
-    #[tactic(auto, using(crate::proofs::MarkLaws::pattern_there))]
     pub fn beads(&self) -> usize
         ensures { result ≡ beads_in self.now.course.pattern.now }
     {
@@ -79,7 +79,7 @@ impl<'a> Case<'a> {
     pub fn mark_prefixes(&self, prefixes: &mut [u16], work: &mut [u16])
         requires unmarked { Unmarked prefixes.old }
         requires in_bounds { (most_steps ≤ length prefixes.old) × (work_length ≤ length work.old) }
-        ensures { MarksOf self.now prefixes.new }
+        ensures { PrefixesMarkedBy self.now prefixes.new }
     {
         for place in 0..self.beads() {
             self.mark_bead(place, prefixes, work);

@@ -1,5 +1,5 @@
 // Sets of numbers below n, and remainders, from a drawn number.
-use places::only;
+use crate::sets::only;
 
 // The set of all.
 pub fn all_below(n: u16) -> u16 {

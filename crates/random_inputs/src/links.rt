@@ -1,6 +1,6 @@
 // The links into a step: one, or some with a drawn gap from each to the next.
 use crate::below::reduced;
-use places::LogRoom;
+use crate::log_room::LogRoom;
 use trial::Random;
 
 // Where they come from.

@@ -1,7 +1,7 @@
 // Logs of all shapes.
 use crate::labels::Labels;
 use crate::links::{Links, draw_links};
-use places::LogRoom;
+use crate::log_room::LogRoom;
 use trial::Random;
 
 // How many labels there are, and how the steps' labels and links are drawn: with no way of links, in one of all ways for each step.

@@ -1,6 +1,6 @@
 // Patterns of all shapes.
 use crate::below::{all_below, any_below, one_below};
-use places::{PatternRoom, Rule};
+use crate::pattern_room::{PatternRoom, Rule};
 use trial::Random;
 
 // How the next sets of a bead are drawn.

@@ -20,7 +20,7 @@ use Rattle.necklace.specs.Necklace.{Pattern}
 use Rattle.necklace.specs.Compute.{row, prefixes, pivots, before, holds?}
 use Rattle.necklace.proofs.Prefixes.{before_holds, before_le}
 use Rattle.necklace.proofs.RowMeaning.{prefixes_below, row_first, length-row}
-use Rattle.layout.specs.Layout.{log_length, pattern_length}
+use Rattle.layout.specs.Layout.{log_length, pattern_length, most_beads, most_steps, row_length}
 use Rattle.log_buffer.specs.Meaning.{log_of, steps_in}
 use Rattle.log_buffer.proofs.Sound.{sound_iff}
 use Rattle.pattern_buffer.specs.Meaning.{labels_in}
@@ -68,7 +68,7 @@ small_row G P v h = small_take 9 (cond (holds? G P P.count v) (pivots G P P.coun
 
 -- ---- a line
 
-word_most : (beads : ℕ) (r : List ℕ) → length r ≡ 10 → Small (drop 1 r) → length (pivots_word beads r) ≤ 44
+word_most : (beads : ℕ) (r : List ℕ) → length r ≡ row_length → Small (drop 1 r) → length (pivots_word beads r) ≤ 44
 word_most beads r e a = go (member (beads - 1) (get_or r 0 0))
   where
     ps : List ℕ
@@ -81,7 +81,7 @@ word_most beads r e a = go (member (beads - 1) (get_or r 0 0))
     go true = omega (arith, length_listed 3 ps (small_take (suc beads) (drop 1 r) a), few)
     go false = omega arith
 
-line_most : (beads step : ℕ) (r : List ℕ) → step < 10 ^ 4 → get_or r 0 0 < 10 ^ 3 → length r ≡ 10 → Small (drop 1 r)
+line_most : (beads step : ℕ) (r : List ℕ) → step < 10 ^ 4 → get_or r 0 0 < 10 ^ 3 → length r ≡ row_length → Small (drop 1 r)
     → length (row_text beads step r) ≤ 54
 unfolding joined
 line_most beads step r h g e a =
@@ -117,7 +117,7 @@ module _ (pattern log result work : List ℕ) (t : T (accepts pattern log result
   unfolding log_of
   steps_are = get_or-take log_length log 0 0 (omega arith)
 
-  pub few_steps : steps_in log ≤ 1024
+  pub few_steps : steps_in log ≤ most_steps
   few_steps =
       let s = ((sound_iff (labels_in (take pattern_length pattern)) (take log_length log)).0 a.log_passes).few_steps in
       let e = get_or-take log_length log 0 0 (omega arith) in
@@ -128,7 +128,7 @@ module _ (pattern log result work : List ℕ) (t : T (accepts pattern log result
       let most = (pattern_well_formed (take pattern_length pattern) a.pattern_passes).at_most in
       let below : prefixes (log_in log) (pattern_in pattern) v < 2 ^ (pattern_in pattern).count = prefixes_below (log_in log) (pattern_in pattern) v in
       let e = row_first (log_in log) (pattern_in pattern) v in
-      omega (arith, pow_mono {i = (pattern_in pattern).count} {j = 8} most)
+      omega (arith, pow_mono {i = (pattern_in pattern).count} {j = most_beads} most)
 
   pub output_fits : (beads : ℕ) → length (header_text ++ row_lines beads (steps_in log) (result_after pattern log result work)) ≤ 55319
   unfolding joined

@@ -2,6 +2,7 @@
 #![tactic(auto)]
 
 ghost use Rattle.std.specs.Prelude.{◌*◌, ◌≤◌, ◌++◌, length};
+ghost use Rattle.layout.specs.Layout.{row_length};
 ghost use Rattle.writing.specs.Put.{Put, Adds};
 ghost use Rattle.report_lines.specs.Lines.{header_text, refusal_text};
 ghost use Rattle.report.specs.Report.{row_lines};
@@ -14,7 +15,7 @@ use writing::Output;
 // Answers how long that is.
 #[tactic(auto, using(crate::proofs::RowsLaws::kit))]
 pub fn put_rows(out: &mut [u8], beads: u16, steps: u16, res: &[u16]) -> usize
-    requires { 10 * steps ≤ length res.now }
+    requires { row_length * steps ≤ length res.now }
     ensures { Put (header_text ++ row_lines beads steps res.now) 0 out.old result out.new }
 {
     let mut output = Output::new(out);
@@ -34,7 +35,7 @@ pub fn put_refusal(out: &mut [u8], a: Answer) -> usize
 
 #[tactic(auto, using(crate::proofs::RowsLaws::kit))]
 fn put_lines(output: &mut Output, beads: u16, steps: u16, res: &[u16])
-    requires steps_in_bounds { 10 * steps ≤ length res.now }
+    requires steps_in_bounds { row_length * steps ≤ length res.now }
     requires at_bound { output.old.at ≤ 23 }
     ensures { Adds (row_lines beads steps res.now) output.old output.new }
 {

@@ -12,35 +12,36 @@ use lib.Seq.{drop-cons, take_all}
 use Rattle.answer.specs.declared.Answer.{Answer}
 use Rattle.sets.specs.Sets.{member}
 use Rattle.sets.proofs.Bits.{member_add, member_empty}
+use Rattle.layout.specs.Layout.{most_beads, set_width, row_length}
 use Rattle.text.specs.Split.{joined}
 use Rattle.numbers.specs.Numbers.{spell}
 use Rattle.report_lines.specs.Lines.{header_text, pivots_word, row_text, refusal_text}
 use Rattle.writing.specs.Put.{listed}
 use Rattle.writing.proofs.PutLaws.{joined_listed, kit as put_kit}
 
--- No set has a member past 15.
-pub none_holds : (beads s : ℕ) → 16 < beads → s < 65536 → member (beads - 1) s ≡ false
+-- No set has a member past its width.
+pub none_holds : (beads s : ℕ) → set_width < beads → s < 65536 → member (beads - 1) s ≡ false
 none_holds beads s h k =
-    let e : beads - 1 ≡ 16 + (beads - 17) = omega arith in
-    let z : s / 2 ^ 16 ≡ 0 = div-eq_of_lt k in
-    ap (λ (i : ℕ). member i s) e ∙ member_add 16 (beads - 17) s ∙ ap (member (beads - 17)) z ∙ member_empty (beads - 17)
+    let e : beads - 1 ≡ set_width + (beads - 1 - set_width) = omega arith in
+    let z : s / 2 ^ set_width ≡ 0 = div-eq_of_lt k in
+    ap (λ (i : ℕ). member i s) e ∙ member_add set_width (beads - 1 - set_width) s ∙ ap (member (beads - 1 - set_width)) z ∙ member_empty (beads - 1 - set_width)
 
 -- ---- pivots
 
 -- The pivots of a row of ten numbers: the first, and the others.
-pivots_part : (row : List ℕ) (beads : ℕ) → length row ≡ 10
-    → take (suc beads) (drop 1 row) ≡ get_or row 1 0 ∷ take (2 + min beads 8 - 2) (drop 2 row)
-pivots_part row beads h = rw (drop-cons row 1 0 (omega arith)) (ap (λ (t : List ℕ). get_or row 1 0 ∷ t) (same (dec_le beads 8)))
+pivots_part : (row : List ℕ) (beads : ℕ) → length row ≡ row_length
+    → take (suc beads) (drop 1 row) ≡ get_or row 1 0 ∷ take (2 + min beads most_beads - 2) (drop 2 row)
+pivots_part row beads h = rw (drop-cons row 1 0 (omega arith)) (ap (λ (t : List ℕ). get_or row 1 0 ∷ t) (same (dec_le beads most_beads)))
   where
-    same : Dec (beads ≤ 8) → take beads (drop 2 row) ≡ take (2 + min beads 8 - 2) (drop 2 row)
-    same (yes l) = let p : 2 + min beads 8 - 2 ≡ beads = omega arith in rw p
+    same : Dec (beads ≤ most_beads) → take beads (drop 2 row) ≡ take (2 + min beads most_beads - 2) (drop 2 row)
+    same (yes l) = let p : 2 + min beads most_beads - 2 ≡ beads = omega arith in rw p
     same (no n) =
         take_all beads (drop 2 row) (rw length-drop (omega arith))
-        ∙ sym (take_all (2 + min beads 8 - 2) (drop 2 row) (rw length-drop (omega arith)))
+        ∙ sym (take_all (2 + min beads most_beads - 2) (drop 2 row) (rw length-drop (omega arith)))
 
 module _ (beads : ℕ) (row : List ℕ) where
-  pub pivots_are : member (beads - 1) (get_or row 0 0) ≡ true → length row ≡ 10
-      → pivots_word beads row ≡ spell (get_or row 1 0) ++ listed 44 (take (2 + min beads 8 - 2) (drop 2 row))
+  pub pivots_are : member (beads - 1) (get_or row 0 0) ≡ true → length row ≡ row_length
+      → pivots_word beads row ≡ spell (get_or row 1 0) ++ listed 44 (take (2 + min beads most_beads - 2) (drop 2 row))
   pivots_are t h = rw (t, pivots_part row beads h, joined_listed)
 
   pub dash_is : member (beads - 1) (get_or row 0 0) ≡ false → pivots_word beads row ≡ 45 ∷ []
@@ -56,6 +57,7 @@ row_is beads step row = simp append_assoc refl
 -- `vertex prefixes pivots`, and its newline
 pub header_is :
     header_text
+    -- `vertex prefixes pivots\n`
     ≡ 118 ∷ 101 ∷ 114 ∷ 116 ∷ 101 ∷ 120 ∷ 32 ∷ 112 ∷ 114 ∷ 101 ∷ 102 ∷ 105 ∷ 120 ∷ 101 ∷ 115 ∷ 32 ∷ 112 ∷ 105 ∷ 118 ∷ 111 ∷ 116 ∷ 115 ∷ 10 ∷ []
 unfolding joined
 header_is = refl

@@ -23,6 +23,7 @@ cases =
     -- vertex prefixes pivots
     (record {
       line = header_text;
+      -- `vertex prefixes pivots\n`
       bytes = 118 ∷ 101 ∷ 114 ∷ 116 ∷ 101 ∷ 120 ∷ 32 ∷ 112 ∷ 114 ∷ 101 ∷ 102 ∷ 105 ∷ 120 ∷ 101 ∷ 115 ∷ 32 ∷ 112 ∷ 105 ∷ 118 ∷ 111 ∷ 116 ∷ 115 ∷ 10 ∷ [];
     })
     -- 0 0 -

@@ -5,6 +5,7 @@
 ghost use Rattle.std.specs.Prelude.{◌+◌, ◌-◌, ◌^◌, ◌≤◌, ◌<◌, ◌≡◌, ◌++◌, ◌∷◌, [], length};
 ghost use Rattle.numbers.specs.Numbers.{spell};
 ghost use Rattle.sets.specs.Sets.{member};
+ghost use Rattle.layout.specs.Layout.{row_length};
 ghost use Rattle.writing.specs.Put.{Adds};
 ghost use Rattle.report_lines.specs.Lines.{header_text, pivots_word, row_text, refusal_text};
 
@@ -44,7 +45,7 @@ pub fn put_refusal(output: &mut Output, a: Answer)
 // The line of a step under a pattern of this many beads, from the step's row in the result buffer.
 #[tactic(auto, using(crate::proofs::LineLaws::kit))]
 pub fn put_row(output: &mut Output, beads: u16, step: u16, row: &[u16])
-    requires row_len { length row.now ≡ 10 }
+    requires row_len { length row.now ≡ row_length }
     requires at_bound { output.old.at + 67 < 2 ^ 64 }
     ensures put { Adds (row_text beads step row.now) output.old output.new }
     ensures upper_bound { output.new.at ≤ output.old.at + 67 }
@@ -57,7 +58,7 @@ pub fn put_row(output: &mut Output, beads: u16, step: u16, row: &[u16])
 
 #[tactic(auto, using(crate::proofs::LineLaws::kit))]
 fn put_pivots(output: &mut Output, beads: u16, row: &[u16])
-    requires row_len { length row.now ≡ 10 }
+    requires row_len { length row.now ≡ row_length }
     requires at_bound { output.old.at + 54 < 2 ^ 64 }
     ensures put { Adds (pivots_word beads row.now) output.old output.new }
     ensures upper_bound { output.new.at ≤ output.old.at + 54 }
@@ -76,6 +77,5 @@ fn put_pivots(output: &mut Output, beads: u16, row: &[u16])
 fn whole_holds(beads: u16, prefixes: u16) -> bool
     ensures { result ≡ member (beads - 1) prefixes }
 {
-    // 16 is how many members a set can have, and no limit of `layout`.
-    beads <= 16 && sets::member(prefixes, beads.saturating_sub(1))
+    usize::from(beads) <= layout::SET_WIDTH && sets::member(prefixes, beads.saturating_sub(1))
 }

@@ -12,14 +12,15 @@ use Rattle.necklace.specs.Dag.{Dag}
 use Rattle.necklace.specs.Necklace.{Pattern}
 use Rattle.necklace.specs.Compute.{holds?, pivots}
 use Rattle.necklace.proofs.RowMeaning.{prefixes_member}
+use Rattle.layout.specs.Layout.{most_beads}
 use Rattle.rows.specs.Rows.{pivot_at, rows_from, whole_from}
 use Rattle.rows.proofs.Meaning.{row_is}
 use Rattle.results.specs.Result.{rows_up_to, whole_up_to}
-use Rattle.prefix_phase.specs.Marked.{Marks}
+use Rattle.prefix_phase.specs.Marked.{PrefixesMarked}
 use Rattle.walk_places.specs.Walked.{WalkedBack}
 use Rattle.walk_places.proofs.PivotLaws.{pivot_is}
 
-module _ (G : Dag) (P : Pattern) (some : 1 ≤ P.count) (n : ℕ) (sets : List ℕ) (m : Marks G P n sets) where
+module _ (G : Dag) (P : Pattern) (some : 1 ≤ P.count) (n : ℕ) (sets : List ℕ) (m : PrefixesMarked G P n sets) where
   -- The last bead's bit is in the set of a vertex exactly if the whole pattern holds there.
   whole_is : (v : ℕ) → v < n → member (P.count - 1) (get_or sets v 0) ≡ holds? G P P.count v
   whole_is v h =
@@ -31,7 +32,7 @@ module _ (G : Dag) (P : Pattern) (some : 1 ≤ P.count) (n : ℕ) (sets : List �
   counted zero h = refl
   counted (suc k) h = ap₂ (λ (x : ℕ) (b : Bool). x + cond b 1 0) (counted k (omega arith)) (whole_is k (omega arith))
 
-  module _ (few : P.count ≤ 8) (places : List ℕ) (w : WalkedBack G P n places) where
+  module _ (few : P.count ≤ most_beads) (places : List ℕ) (w : WalkedBack G P n places) where
     -- What is put down for a vertex at which the whole pattern holds are its pivots.
     pub pivots_are : (k v : ℕ) → k ≤ P.count → v < n → T (holds? G P P.count v) → get_or places (pivot_at k v) 0 ≡ get_or (pivots G P P.count v) k 0
     pivots_are k v h l t =

@@ -1,2 +1,2 @@
 pub mod Result
-pub mod Arrays
+pub mod inner

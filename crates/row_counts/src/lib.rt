@@ -2,7 +2,7 @@
 #![tactic(auto)]
 
 use other_judge::{Row, Settled};
-use places::{LogRoom, PatternRoom, has};
+use random_inputs::{LogRoom, PatternRoom, has};
 use std::num::Wrapping;
 
 // The rows of a log, those of no step all 0, and at how many steps the whole pattern holds.

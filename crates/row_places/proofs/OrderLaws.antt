@@ -8,6 +8,7 @@ use native.Mathlib.Omega.{arith}
 use borrow.Author.Tests.{lt-ltb, le-ltb, le-leb, eq-eqb, ne_eqb}
 use lib.Dec.{eqb, leb, ltb}
 use Rattle.std.specs.Prelude.{Option, Some, None}
+use Rattle.layout.specs.Layout.{most_beads, most_states}
 use Rattle.line_places.specs.Place.{as_place, place_at}
 use Rattle.pattern_row.specs.Fields.{row_of}
 use Rattle.pattern_places.specs.Place.{bead_wrong, state_wrong, disordered_at}
@@ -27,30 +28,30 @@ module _ (s : Said) (o : Option Said) where
 
   module _ (l : Said) (e : o ≡ Some l) (x : ℕ) where
     module _ (is : x ≡ s.bead) where
-      pub bead_over : 8 < x → ltb 8 x ≡ bead_wrong (rows_said o) (row_said s)
+      pub bead_over : most_beads < x → ltb most_beads x ≡ bead_wrong (rows_said o) (row_said s)
       unfolding bead_wrong
-      bead_over h = lt-ltb 8 x h ∙ sym (rw (e, sym is, lt-ltb 8 x h) refl)
+      bead_over h = lt-ltb most_beads x h ∙ sym (rw (e, sym is, lt-ltb most_beads x h) refl)
 
-      pub bead_again : x ≤ 8 → s.bead ≡ l.bead → not (eqb s.bead l.bead) ≡ bead_wrong (rows_said o) (row_said s)
+      pub bead_again : x ≤ most_beads → s.bead ≡ l.bead → not (eqb s.bead l.bead) ≡ bead_wrong (rows_said o) (row_said s)
       unfolding bead_wrong
-      bead_again h n = ap not (eq-eqb s.bead l.bead n) ∙ sym (rw (e, le-ltb 8 s.bead (omega arith), eq-eqb s.bead l.bead n) refl)
+      bead_again h n = ap not (eq-eqb s.bead l.bead n) ∙ sym (rw (e, le-ltb most_beads s.bead (omega arith), eq-eqb s.bead l.bead n) refl)
 
-      pub bead_other : x ≤ 8 → (s.bead ≡ l.bead → ⊥) → (y z : ℕ) → y ≡ s.bead → z ≡ l.bead → not (eqb y (z + 1)) ≡ bead_wrong (rows_said o) (row_said s)
+      pub bead_other : x ≤ most_beads → (s.bead ≡ l.bead → ⊥) → (y z : ℕ) → y ≡ s.bead → z ≡ l.bead → not (eqb y (z + 1)) ≡ bead_wrong (rows_said o) (row_said s)
       unfolding bead_wrong
-      bead_other h n y z p q = rw (p, q) (sym (rw (e, le-ltb 8 s.bead (omega arith), ne_eqb s.bead l.bead n) refl))
+      bead_other h n y z p q = rw (p, q) (sym (rw (e, le-ltb most_beads s.bead (omega arith), ne_eqb s.bead l.bead n) refl))
 
     module _ (is : x ≡ s.state) where
-      pub state_over : 16 ≤ x → leb 16 x ≡ state_wrong (rows_said o) (row_said s)
+      pub state_over : most_states ≤ x → leb most_states x ≡ state_wrong (rows_said o) (row_said s)
       unfolding state_wrong
-      state_over h = le-leb 16 x h ∙ sym (rw (e, le-ltb s.state 16 (omega arith)) refl)
+      state_over h = le-leb most_states x h ∙ sym (rw (e, le-ltb s.state most_states (omega arith)) refl)
 
-      pub state_next : x < 16 → s.bead ≡ l.bead → (y z : ℕ) → y ≡ s.state → z ≡ l.state → not (eqb y (z + 1)) ≡ state_wrong (rows_said o) (row_said s)
+      pub state_next : x < most_states → s.bead ≡ l.bead → (y z : ℕ) → y ≡ s.state → z ≡ l.state → not (eqb y (z + 1)) ≡ state_wrong (rows_said o) (row_said s)
       unfolding state_wrong
-      state_next h again y z p q = rw (p, q) (sym (rw (e, lt-ltb s.state 16 (omega arith), eq-eqb s.bead l.bead again) refl))
+      state_next h again y z p q = rw (p, q) (sym (rw (e, lt-ltb s.state most_states (omega arith), eq-eqb s.bead l.bead again) refl))
 
-      pub state_new : x < 16 → (s.bead ≡ l.bead → ⊥) → not (eqb s.state 0) ≡ state_wrong (rows_said o) (row_said s)
+      pub state_new : x < most_states → (s.bead ≡ l.bead → ⊥) → not (eqb s.state 0) ≡ state_wrong (rows_said o) (row_said s)
       unfolding state_wrong
-      state_new h n = sym (rw (e, lt-ltb s.state 16 (omega arith), ne_eqb s.bead l.bead n) refl)
+      state_new h n = sym (rw (e, lt-ltb s.state most_states (omega arith), ne_eqb s.bead l.bead n) refl)
 
 pub ruleset bead_kit = (bead_first, bead_over, bead_again, bead_other)
 

@@ -8,6 +8,7 @@ ghost use Rattle.row_places.specs.Said.{row_said, rows_said};
 
 use crate::value_in;
 use fields::Fields;
+use layout::PATTERN_FIELDS;
 use line_places::place_at;
 
 // Of which bead and which state a line speaks; 0 where the field is no number.
@@ -22,7 +23,7 @@ pub fn said_in(line: &[u8]) -> Said
     ensures bead { result.bead ≡ (row_of (split 32 line.now)).bead }
     ensures state { result.state ≡ (row_of (split 32 line.now)).state }
 {
-    let fields: Fields<24> = Fields::split(line);
+    let fields: Fields<PATTERN_FIELDS> = Fields::split(line);
     Said {
         bead: value_in(&fields, 0),
         state: value_in(&fields, 2),

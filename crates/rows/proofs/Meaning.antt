@@ -17,14 +17,10 @@ use Rattle.necklace.specs.Dag.{Dag}
 use Rattle.necklace.specs.Necklace.{Pattern}
 use Rattle.necklace.specs.Compute.{holds?, pivots, prefixes, row}
 use Rattle.necklace.proofs.RowMeaning.{length-row, row_first, row_pivots, row_fails, pivots_length, prefixes_member}
+use Rattle.layout.specs.Layout.{most_beads, row_length}
 use Rattle.rows.specs.Rows.{pivot_at, pivot_or, row_place, row_from}
 
--- What the arrays hold of the vertices below n: their sets of prefixes, and the pivots of those at which the whole pattern holds.
-pub record Ready (G : Dag) (P : Pattern) (n : ℕ) (sets places : List ℕ) : Type 0 where
-  pub marked : (v : ℕ) → v < n → get_or sets v 0 ≡ prefixes G P v
-  pub walked : (k v : ℕ) → k ≤ P.count → v < n → T (holds? G P P.count v) → get_or places (pivot_at k v) 0 ≡ get_or (pivots G P P.count v) k 0
-
-module _ (G : Dag) (P : Pattern) (some : 1 ≤ P.count) (few : P.count ≤ 8) (v : ℕ) where
+module _ (G : Dag) (P : Pattern) (some : 1 ≤ P.count) (few : P.count ≤ most_beads) (v : ℕ) where
   last_bit : member (P.count - 1) (prefixes G P v) ≡ holds? G P P.count v
   last_bit =
       let e : suc (P.count - 1) ≡ P.count = omega arith in
@@ -41,15 +37,15 @@ module _ (G : Dag) (P : Pattern) (some : 1 ≤ P.count) (few : P.count ≤ 8) (v
         len : length (pivots G P P.count v) ≡ suc P.count
         len = pivots_length G P P.count v
 
-        go : Dec (P.count < k) → get_or (pivots G P P.count v ++ replicate (8 - P.count) 0) k 0 ≡ pivot_or P.count true k v places
+        go : Dec (P.count < k) → get_or (pivots G P P.count v ++ replicate (most_beads - P.count) 0) k 0 ≡ pivot_or P.count true k v places
         go (yes h) =
             let e : k ≡ length (pivots G P P.count v) + (k - suc P.count) = omega (arith, len) in
-            ap (λ (i : ℕ). get_or (pivots G P P.count v ++ replicate (8 - P.count) 0) i 0) e
-            ∙ get_or-append-add (pivots G P P.count v) (replicate (8 - P.count) 0) (k - suc P.count) 0
-            ∙ zeros_at (8 - P.count) (k - suc P.count) ∙ sym (rw (lt-leb k P.count h) refl)
+            ap (λ (i : ℕ). get_or (pivots G P P.count v ++ replicate (most_beads - P.count) 0) i 0) e
+            ∙ get_or-append-add (pivots G P P.count v) (replicate (most_beads - P.count) 0) (k - suc P.count) 0
+            ∙ zeros_at (most_beads - P.count) (k - suc P.count) ∙ sym (rw (lt-leb k P.count h) refl)
         go (no h) =
             let g : k ≤ P.count = omega arith in
-            get_or-append (pivots G P P.count v) (replicate (8 - P.count) 0) 0 k (omega (arith, len))
+            get_or-append (pivots G P P.count v) (replicate (most_beads - P.count) 0) 0 k (omega (arith, len))
             ∙ sym (walked k g t) ∙ sym (rw (le-leb k P.count g) refl)
 
     place : (k : ℕ) (b : Bool) → holds? G P P.count v ≡ b → get_or (drop 1 (row G P v)) k 0 ≡ pivot_or P.count b k v places
@@ -57,7 +53,7 @@ module _ (G : Dag) (P : Pattern) (some : 1 ≤ P.count) (few : P.count ≤ 8) (v
     place k false e = ap (λ (l : List ℕ). get_or l k 0) (row_fails G P v (false_no (holds? G P P.count v) e)) ∙ zeros_at 9 k
 
     pub row_is : (s : ℕ) → s ≡ prefixes G P v → row_from P.count v s places ≡ row G P v
-    row_is s e = table_is (row_place P.count v s places) 10 (row G P v) (length-row G P v) (λ i h. at_place i)
+    row_is s e = table_is (row_place P.count v s places) row_length (row G P v) (length-row G P v) (λ i h. at_place i)
       where
         at_place : (i : ℕ) → get_or (row G P v) i 0 ≡ row_place P.count v s places i
         at_place zero = row_first G P v ∙ sym e

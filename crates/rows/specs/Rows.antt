@@ -2,10 +2,11 @@
 use Rattle.std.specs.Prelude.{ℕ, zero, suc, ◌+◌, ◌-◌, ◌*◌, Bool, cond, ◌&&◌, List, [], ◌++◌, leb, get_or}
 use Rattle.lists.specs.Tables.{table}
 use Rattle.sets.specs.Sets.{member}
+use Rattle.layout.specs.Layout.{most_steps, row_length}
 
 -- The place of the pivot of the first k beads of the vertex v.
 abbrev pub pivot_at : ℕ → ℕ → ℕ
-pivot_at k v = 1024 * k + v
+pivot_at k v = most_steps * k + v
 
 -- The numbers of a row: the set of prefixes; then, where the last bead's bit is in it, the pivots p 0 to p beads; else zeros.
 abbrev pub pivot_or : ℕ → Bool → ℕ → ℕ → List ℕ → ℕ
@@ -16,7 +17,7 @@ row_place beads v prefixes pivots zero = prefixes
 row_place beads v prefixes pivots (suc k) = pivot_or beads (member (beads - 1) prefixes) k v pivots
 
 abbrev pub row_from : ℕ → ℕ → ℕ → List ℕ → List ℕ
-row_from beads v prefixes pivots = table (row_place beads v prefixes pivots) 10
+row_from beads v prefixes pivots = table (row_place beads v prefixes pivots) row_length
 
 -- The rows of the vertices below n.
 unfoldable pub rows_from : ℕ → List ℕ → List ℕ → ℕ → List ℕ

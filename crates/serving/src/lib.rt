@@ -1,9 +1,10 @@
 // Which candidates serve as the pivot before which steps: SOME and ALL are decided bead by bead, by a pass from the candidates.
-// Rooms are slices of at least so many numbers, as each contract says: an array, or a struct with the bound, would take fewer or be made anew at each call.
+// Rooms are slices of at least so many numbers, as each contract says: an array, or a struct with the bound, would take fewer or be made anew at
+// each call.
 #![tactic(auto)]
 
 ghost use Rattle.std.specs.Prelude.{◌≡◌, ◌<◌, ◌≤◌, length};
-ghost use Rattle.layout.specs.Layout.{most_beads, most_steps, work_length};
+ghost use Rattle.layout.specs.Layout.{most_beads, most_steps, work_length, rule_at};
 ghost use Rattle.log_buffer.specs.Meaning.{steps_in};
 ghost use Rattle.log_links.specs.Links.{LastTo};
 ghost use Rattle.entering.specs.Entering.{BeadIn};
@@ -19,7 +20,7 @@ use starts::Lanes;
 // step and not for which, so all share one.
 #[tactic(auto, using(crate::proofs::ServingLaws::lanes_kit))]
 pub fn lanes_by_rule(pattern: &[u16], place: usize) -> Lanes
-    requires { (place < most_beads) × (10 ≤ length pattern.now) }
+    requires { (place < most_beads) × (rule_at most_beads ≤ length pattern.now) }
     ensures { LanesFor pattern.now place result }
 {
     if pattern[layout::RULES + place] == layout::ALL {
@@ -77,6 +78,7 @@ impl<'a> Course<'a> {
             bead: self.bead(place),
             hopeful: self.hopes[place],
             log: self.log.numbers,
+            labels: self.log.labels,
             last: self.last,
             seeds,
             first: starts.first,

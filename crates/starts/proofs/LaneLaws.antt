@@ -8,12 +8,13 @@ use native.Mathlib.Omega.{arith}
 use lib.Dec.{T}
 use lib.ListN.{length, get_or, set}
 use Rattle.sets.specs.Sets.{member, singleton}
+use Rattle.layout.specs.Layout.{most_lanes, most_steps}
 use Rattle.starts.specs.Starts.{Apart, StartsOf, Looked, LanesBelow, ApartIf, lane_after}
 use Rattle.starts.specs.declared.Lanes.{Lanes}
 use Rattle.starts.specs.declared.Lanes.TheVariants.{Shared, Own}
 use Rattle.starts.proofs.StartLaws.{Has, has, written}
 
-module _ (lanes : Lanes) (from u lane : ℕ) (b : Bool) (old new : List ℕ) (d : LanesBelow lanes from u lane old) (inside : u < 1024) (long : 1024 ≤ length new)
+module _ (lanes : Lanes) (from u lane : ℕ) (b : Bool) (old new : List ℕ) (d : LanesBelow lanes from u lane old) (inside : u < most_steps) (long : most_steps ≤ length new)
     (e : new ≡ set old u (cond b (singleton lane) 0)) where
   which : (i w : ℕ) → w < u + 1 → T (member i (get_or new w 0)) → Has u lane b old i w
   which i w h m = has u lane b old new (written old new u (cond b (singleton lane) 0) inside long e) e i w h m
@@ -49,7 +50,7 @@ module _ (lanes : Lanes) (from u lane : ℕ) (b : Bool) (old new : List ℕ) (d 
       used a i w l (inl p) = let q : true ≡ false = sym p.2 ∙ n in cc
       used a i w l (inr p) = d.used a i w l p.0 p.1
 
-pub lane_most : (lanes : Lanes) (lane next : ℕ) → next ≡ lane_after lanes lane → lane < 16 → next ≤ 16
+pub lane_most : (lanes : Lanes) (lane next : ℕ) → next ≡ lane_after lanes lane → lane < most_lanes → next ≤ most_lanes
 unfolding lane_after
 lane_most Shared lane next z h = omega arith
 lane_most Own lane next z h = omega arith
@@ -61,7 +62,7 @@ lanes_none lanes from l =
     record { apart = λ a. record { one = λ i u w h k g j m t. absurd (omega arith) }; used = λ a i u h k m. absurd (omega arith); few = omega arith }
 
 -- all lanes are given: as many steps have been looked at
-pub starts_full : (f : ℕ → Bool) (lanes : Lanes) (from n lane first until u : ℕ) (l : List ℕ) → lane ≡ 16 → LanesBelow lanes from u lane l → u ≤ n
+pub starts_full : (f : ℕ → Bool) (lanes : Lanes) (from n lane first until u : ℕ) (l : List ℕ) → lane ≡ most_lanes → LanesBelow lanes from u lane l → u ≤ n
     → Looked f from first until u l → StartsOf f from n (record { first = first; until = until; to = u }) l
 starts_full f lanes from n lane first until u l full d k x =
     let m = d.few in record { some = omega arith; inside = k; begin = x.begin; end = x.end; seeded = x.seeded; between = x.between }

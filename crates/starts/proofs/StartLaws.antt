@@ -14,6 +14,7 @@ use Rattle.sets.specs.Sets.{member, singleton}
 use Rattle.sets.proofs.Truth.{yes_true, true_yes, false_no}
 use Rattle.sets.proofs.Bits.{member_empty}
 use Rattle.sets.proofs.Laws.{member-singleton}
+use Rattle.layout.specs.Layout.{most_lanes, most_steps}
 use Rattle.starts.specs.Starts.{Seeded, StartsOf, Looked}
 
 -- ---- one step
@@ -30,7 +31,7 @@ below_next : (w u : ℕ) → w < u + 1 → (w ≡ u → ⊥) → w < u
 below_next w u h n = omega arith
 
 -- a place of a room, by the room after it was written
-pub written : (old new : List ℕ) (u x : ℕ) → u < 1024 → 1024 ≤ length new → new ≡ set old u x → u < length old
+pub written : (old new : List ℕ) (u x : ℕ) → u < most_steps → most_steps ≤ length new → new ≡ set old u x → u < length old
 written old new u x h l e = omega (arith, ap length e, length-set old u x)
 
 -- The step w has the lane i: it is the step looked at and has been given the lane, or it had it before.
@@ -57,8 +58,8 @@ module _ (u lane : ℕ) (b : Bool) (old new : List ℕ) (inside : u < length old
 
 -- ---- one more step
 
-module _ (f : ℕ → Bool) (from first until u lane : ℕ) (b : Bool) (old new : List ℕ) (d : Looked f from first until u old) (up : from ≤ u) (free : lane < 16)
-    (inside : u < 1024) (long : 1024 ≤ length new) (test : b ≡ f u) (e : new ≡ set old u (cond b (singleton lane) 0)) where
+module _ (f : ℕ → Bool) (from first until u lane : ℕ) (b : Bool) (old new : List ℕ) (d : Looked f from first until u old) (up : from ≤ u) (free : lane < most_lanes)
+    (inside : u < most_steps) (long : most_steps ≤ length new) (test : b ≡ f u) (e : new ≡ set old u (cond b (singleton lane) 0)) where
   here : u < length old
   here = written old new u (cond b (singleton lane) 0) inside long e
 
@@ -68,7 +69,7 @@ module _ (f : ℕ → Bool) (from first until u lane : ℕ) (b : Bool) (old new 
   seeded : Seeded f from (u + 1) new
   seeded = record { covers = λ w l h t. covers w l h t (ℕ_discrete w u); only = λ i w l h m. only i w l (which i w h m) }
     where
-      covers : (w : ℕ) → from ≤ w → w < u + 1 → T (f w) → Dec (w ≡ u) → (i : ℕ) × (i < 16) × T (member i (get_or new w 0))
+      covers : (w : ℕ) → from ≤ w → w < u + 1 → T (f w) → Dec (w ≡ u) → (i : ℕ) × (i < most_lanes) × T (member i (get_or new w 0))
       covers w l h t (yes z) =
           let y : b ≡ true = test ∙ ap f (sym z) ∙ yes_true (f w) t in
           let s : get_or new w 0 ≡ singleton lane = own_seed u lane b old new here e w z ∙ ap (λ (c : Bool). cond c (singleton lane) 0) y in

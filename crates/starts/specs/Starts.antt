@@ -1,9 +1,10 @@
--- The steps at which the passes for a bead start, and the lanes, of sixteen, that they are given.
+-- The steps at which the passes for a bead start, and the lanes that they are given.
 use Rattle.std.specs.Prelude.{ℕ, zero, suc, ◌+◌, ◌≤◌, ◌<◌, ◌≡◌, Bool, List, T, eqb, get_or}
 use Rattle.sets.specs.Sets.{member}
 use Rattle.necklace.specs.Dag.{Dag}
 use Rattle.necklace.specs.Necklace.{Pattern}
 use Rattle.necklace.specs.Compute.{holds?}
+use Rattle.layout.specs.Layout.{most_lanes}
 use Rattle.starts.specs.declared.Starts.{Starts}
 use Rattle.starts.specs.declared.Lanes.{Lanes}
 use Rattle.starts.specs.declared.Lanes.TheVariants.{Shared, Own}
@@ -19,14 +20,15 @@ pub record Earlier (G : Dag) (P : Pattern) (k n : ℕ) (prefixes : List ℕ) : T
 
 -- Of the steps from `from` on and below `to`: each that passes has a lane, and no other has one.
 pub record Seeded (f : ℕ → Bool) (from to : ℕ) (seeds : List ℕ) : Type 0 where
-  pub covers : (u : ℕ) → from ≤ u → u < to → T (f u) → (i : ℕ) × (i < 16) × T (member i (get_or seeds u 0))
+  pub covers : (u : ℕ) → from ≤ u → u < to → T (f u) → (i : ℕ) × (i < most_lanes) × T (member i (get_or seeds u 0))
   pub only : (i u : ℕ) → from ≤ u → u < to → T (member i (get_or seeds u 0)) → T (f u)
 
 -- No two of them share a lane.
 pub record Apart (from to : ℕ) (seeds : List ℕ) : Type 0 where
   pub one : (i u w : ℕ) → from ≤ u → u < to → from ≤ w → w < to → T (member i (get_or seeds u 0)) → T (member i (get_or seeds w 0)) → u ≡ w
 
--- What the starting steps of a pass are: of the steps from `from` on and below `starts.to`, those that pass. All lie from `first` on and below `until`.
+-- What the starting steps of a pass are: of the steps from `from` on and below `starts.to`, those that pass. All lie from `first` on and below
+-- `until`.
 pub record StartsOf (f : ℕ → Bool) (from n : ℕ) (starts : Starts) (seeds : List ℕ) : Type 0 where
   pub some : from < starts.to
   pub inside : starts.to ≤ n

@@ -3,7 +3,7 @@
 
 ghost use Rattle.std.specs.Prelude.{◌≡◌, cond, ◌<◌, ◌≤◌, length, set};
 ghost use Rattle.sets.specs.Sets.{singleton};
-ghost use Rattle.layout.specs.Layout.{most_beads, most_steps};
+ghost use Rattle.layout.specs.Layout.{most_beads, most_steps, most_lanes};
 ghost use Rattle.starts.specs.Starts.{prefix_at, lane_after, StartsOf, ApartIf};
 
 // How starting steps are given lanes: all of them lane 0, or the next sixteen a lane each.
@@ -25,7 +25,7 @@ pub struct Starts {
 // The lane of the starting step after the one that has been given this lane.
 #[tactic(auto, unfolding(crate::specs::Starts::lane_after))]
 fn lane_after(lanes: Lanes, lane: u16) -> u16
-    requires { lane < 16 }
+    requires { lane < most_lanes }
     ensures { result ≡ lane_after lanes lane }
 {
     match lanes {
@@ -50,7 +50,7 @@ fn prefix_at(prefixes: &[u16], bead: usize, u: usize) -> bool
 // Gives the step u the lane if it is a starting step, else none.
 #[tactic(auto, using(crate::proofs::StartLaws::give_kit))]
 fn give(starts: bool, u: usize, lane: u16, seeds: &mut [u16])
-    requires { (lane < 16) × (u < length seeds.old) }
+    requires { (lane < most_lanes) × (u < length seeds.old) }
     ensures { seeds.new ≡ set seeds.old u (cond starts (singleton lane) 0) }
 {
     seeds[u] = if starts { sets::singleton(lane) } else { 0 };
@@ -73,7 +73,7 @@ pub fn choose(
     let mut until = from;
     let mut lane = 0;
     for u in from..n {
-        if lane == 16 {
+        if lane == layout::MOST_LANES {
             return Starts {
                 first,
                 until,

@@ -4,7 +4,7 @@ use mathlib.Core.Path.{◌≡◌, refl, sym, ap}
 use Prim.Native.Nat.{ℕ}
 use native.Mathlib.Omega.{arith}
 use Rattle.std.specs.Prelude.{Result, Ok, Err}
-use Rattle.text.specs.Faults.{in_line}
+use Rattle.text.specs.inner.Faults.{in_line}
 use Rattle.text.specs.Lines.{whole_or}
 use Rattle.text.specs.declared.faults.Fault.{Fault}
 use Rattle.text.specs.declared.lines.LineFault.{LineFault}

@@ -8,7 +8,7 @@ use mathlib.Core.List.{List, [], ◌∷◌}
 use native.Mathlib.Omega.{arith}
 use lib.Dec.{T}
 use Rattle.text.specs.Lines.{lines_of}
-use Rattle.text.specs.Walk.{Judged, refused, passed, Outcome, accepted, faulty, proceed, walk, Format, bad_size, read_text}
+use Rattle.text.specs.Walk.{Judged, refused, passed, Outcome, accepted, faulty, proceed, walk, Format, judge_by, bad_size, read_text}
 use Rattle.text.specs.FirstBad.{AllPass, done, next, FirstBad, here, later}
 
 module _ {S L : Type 0} (judge : S → ℕ → L → Judged S) where
@@ -83,13 +83,13 @@ module _ {S : Type 0} (F : Format S) (text : List ℕ) where
   pub size_faulty : T (bad_size F.most text) → read_text F text ≡ faulty F.size_refusal 0
   size_faulty t = go (bad_size F.most text) t
     where
-      go : (b : Bool) → T b → cond b (faulty F.size_refusal 0) (walk F.judge F.start 1 (lines_of text)) ≡ faulty F.size_refusal 0
+      go : (b : Bool) → T b → cond b (faulty F.size_refusal 0) (walk (judge_by F) F.start 1 (lines_of text)) ≡ faulty F.size_refusal 0
       go true t = refl
       go false t = absurd t
 
-  pub size_passes : (T (bad_size F.most text) → ⊥) → read_text F text ≡ walk F.judge F.start 1 (lines_of text)
+  pub size_passes : (T (bad_size F.most text) → ⊥) → read_text F text ≡ walk (judge_by F) F.start 1 (lines_of text)
   size_passes f = go (bad_size F.most text) f
     where
-      go : (b : Bool) → (T b → ⊥) → cond b (faulty F.size_refusal 0) (walk F.judge F.start 1 (lines_of text)) ≡ walk F.judge F.start 1 (lines_of text)
+      go : (b : Bool) → (T b → ⊥) → cond b (faulty F.size_refusal 0) (walk (judge_by F) F.start 1 (lines_of text)) ≡ walk (judge_by F) F.start 1 (lines_of text)
       go true f = absurd (f tt)
       go false f = refl

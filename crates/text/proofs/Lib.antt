@@ -4,3 +4,4 @@ pub mod LineLaws
 pub mod WalkLaws
 pub mod FirstBadLaws
 pub mod FaultLaws
+pub mod FormatLaws

@@ -3,14 +3,14 @@
 use mathlib.Core.Path.{◌≡◌, refl, sym, ap, ap₂, ◌∙◌}
 use mathlib.Core.Bool.{Bool, true, false}
 use mathlib.Core.List.{List, [], ◌∷◌}
-use Prim.Native.Nat.{ℕ, ◌+◌, ◌-◌, ◌*◌, ◌^◌, ◌≤◌, ◌<◌}
+use Prim.Native.Nat.{ℕ, ◌+◌, ◌-◌, ◌≤◌, ◌<◌}
 use native.Mathlib.Omega.{arith}
-use borrow.Author.Tests.{le-leb, lt-leb, lt-ltb, le-ltb, eq-eqb, ne_eqb, ltb-true, ltb-false}
+use borrow.Author.Tests.{le-leb, lt-leb, le-ltb, ne_eqb, ltb-true, ltb-false}
 use lib.Dec.{ltb}
 use lib.ListN.{length, take, drop, drop_of_length-le, length-drop}
 use lib.Seq.{drop-drop, length-take-le}
 use Rattle.text.specs.Lines.{TextLine, last_line, lines_of, printable, first_line, answer_of, line_of, whole}
-use Rattle.text.specs.Walk.{Judged, refused, passed, Outcome, accepted, faulty, proceed, walk, Format, read_text}
+use Rattle.text.specs.Walk.{Judged, refused, passed, Outcome, accepted, faulty, proceed, walk, Format, judge_by, read_text}
 use Rattle.text.specs.declared.lines.LineFault.{LineFault}
 use Rattle.text.specs.declared.lines.LineFault.TheVariants.{Long, Unended, Unprintable}
 use Rattle.std.specs.Prelude.{Result, Ok, Err}
@@ -162,45 +162,8 @@ module _ {S : Type 0} (judge : S → ℕ → TextLine → Judged S) (s : S) (n :
       pub text_passed : (t : S) → judge s n lent ≡ passed t → all ≡ walk judge t (n + 1) (lines_of (drop (at + e + 1) text))
       text_passed t q = forward ∙ ap (λ (j : Judged S). proceed n j (λ u. walk judge u (n + 1) (lines_of (drop (at + e + 1) text)))) q
 
--- What the code asks of numbers where a whole line was found.
-module _ (text : List ℕ) (at most : ℕ) (r : Result ℕ LineFault) (given : r ≡ line_of most (take (length text - at) (drop at text))) (e : ℕ) (p : r ≡ Ok e) where
-  length_left : at + e < length text
-  length_left =
-      let i = (next_line most (drop at text) e (sym (given ∙ ap (line_of most) (rest_part text at)) ∙ p)).inside in
-      let d = length-drop at text in
-      omega arith
-
-  pub line_in : at + e ≤ length text
-  line_in = let h = length_left in omega arith
-
-  pub after_in : at + e + 1 ≤ length text
-  after_in = let h = length_left in omega arith
-
-  pub line_fits : length text < 2 ^ 64 → at + e < 2 ^ 64
-  line_fits k = let h = length_left in omega arith
-
-  pub after_fits : length text < 2 ^ 64 → at + e + 1 < 2 ^ 64
-  after_fits k = let h = length_left in omega arith
-
-  pub number_in : (n : ℕ) → n ≤ at + 1 → n + 1 ≤ at + e + 1 + 1
-  number_in n k = omega arith
-
-  pub number_fits : (n : ℕ) → n ≤ at + 1 → length text * 1 < 2 ^ 63 → n + 1 < 2 ^ 64
-  number_fits n h k = let i = length_left in omega arith
-
-  pub left_falls : length text - (at + e + 1) < length text - at
-  left_falls = let h = length_left in omega arith
-
-pub ruleset walk_numbers = (line_in, after_in, line_fits, after_fits, number_in, number_fits, left_falls)
-
 -- ---- the size, before all lines
 
-module _ {S : Type 0} (F : Format S) (text : List ℕ) where
-  pub size_empty : length text ≡ 0 → read_text F text ≡ faulty F.size_refusal 0
-  size_empty e = simp (eq-eqb (length text) 0 e)
-
-  pub size_over : (length text ≡ 0 → ⊥) → F.most < length text → read_text F text ≡ faulty F.size_refusal 0
-  size_over n h = simp (ne_eqb (length text) 0 n, lt-ltb F.most (length text) h)
-
-  pub size_right : (length text ≡ 0 → ⊥) → length text ≤ F.most → read_text F text ≡ walk F.judge F.start 1 (lines_of (drop 0 text))
-  size_right n h = simp (ne_eqb (length text) 0 n, le-ltb F.most (length text) h)
+pub size_right : {S : Type 0} (F : Format S) (text : List ℕ) → (length text ≡ 0 → ⊥) → length text ≤ F.most
+    → read_text F text ≡ walk (judge_by F) F.start 1 (lines_of (drop 0 text))
+size_right F text n h = simp (ne_eqb (length text) 0 n, le-ltb F.most (length text) h)

@@ -1,5 +1,5 @@
 pub mod Split
-pub mod Faults
 pub mod Lines
 pub mod Walk
 pub mod FirstBad
+pub mod inner

@@ -1,6 +1,6 @@
 // What a text is refused for, whichever format it has.
 ghost use Rattle.std.specs.Prelude.{◌≡◌};
-ghost use Rattle.text.specs.Faults.{in_line};
+ghost use Rattle.text.specs.inner.Faults.{in_line};
 
 // A refusal with the line at fault, from 1 on; 0 where it is no line's fault.
 #[derive(Clone, Copy, PartialEq, Eq, Debug)]

@@ -1,6 +1,14 @@
-// The first line of what is left of a text.
+// The size of a text, and the first line of what is left of it.
 ghost use Rattle.std.specs.Prelude.{◌≡◌};
 ghost use Rattle.text.specs.Lines.{ended, printable_byte, printable, line_of, whole_or};
+ghost use Rattle.text.specs.Walk.{bad_size};
+
+// The text is empty or too large: it has more bytes than allowed.
+pub fn has_bad_size(text: &[u8], most: usize) -> bool
+    ensures { result ≡ bad_size most text.now }
+{
+    text.is_empty() || text.len() > most
+}
 
 // What is wrong with a line, before its fields are looked at.
 #[derive(Clone, Copy, PartialEq, Eq, Debug)]

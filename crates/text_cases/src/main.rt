@@ -1,4 +1,5 @@
-// Functions of `text`, `fields` and `numbers` at their edges, on the cases of `cases.txt`, a line a case; at the end, how many cases of each kind were tried.
+// Functions of `text`, `fields` and `numbers` at their edges, on the cases of `cases.txt`, a line a case; at the end, how many cases of each kind
+// were tried.
 //
 // A line of the file has its columns parted by tabs: what is tried, the kind, the bytes as a script (`script::expand`), and what the
 // kind takes besides them: the other bytes of a comparison.

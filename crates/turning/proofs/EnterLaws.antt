@@ -11,7 +11,8 @@ use Rattle.sets.specs.Sets.{member, set_of, union, some_below}
 use Rattle.sets.proofs.Bits.{member_empty}
 use Rattle.sets.proofs.Laws.{member-set_of, member_union, some_below_none, some_below_more}
 use Rattle.necklace.specs.Automaton.{Automaton}
-use Rattle.necklace.specs.Forward.{reached}
+use Rattle.necklace.specs.inner.Forward.{reached}
+use Rattle.layout.specs.Layout.{most_states, most_lanes}
 use Rattle.entering.specs.Entering.{spread_over, Grown}
 use Rattle.turning.specs.Turning.{EnteredTo}
 
@@ -22,8 +23,8 @@ module _ (A : Automaton) (labels here : List ℕ) where
     lanes = λ i r l k. ap (member i) (zeros_at n r) ∙ member_empty i ∙ sym (some_below_none (λ q. member i (get_or here q 0) && reached A labels q r));
   }
 
-  pub entered_end : (q : ℕ) (next : List ℕ) → q ≤ 16 → 16 ≤ q → EnteredTo A labels q here next → EnteredTo A labels 16 here next
-  entered_end q next h k d = let e : q ≡ 16 = omega arith in rw e at d
+  pub entered_end : (q : ℕ) (next : List ℕ) → q ≤ most_states → most_states ≤ q → EnteredTo A labels q here next → EnteredTo A labels most_states here next
+  entered_end q next h k d = let e : q ≡ most_states = omega arith in rw e at d
 
   module _ (q lanes : ℕ) (el : lanes ≡ get_or here q 0) (old : List ℕ) (d : EnteredTo A labels q here old) where
     pub entered_skip : lanes ≡ 0 → EnteredTo A labels (q + 1) here old
@@ -35,14 +36,14 @@ module _ (A : Automaton) (labels here : List ℕ) where
           ∙ or-false _);
     }
 
-    pub entered_more : (set : ℕ) (new : List ℕ) → set ≡ set_of 16 (reached A labels q) → Grown 16 (spread_over set lanes) old new → EnteredTo A labels (q + 1) here new
+    pub entered_more : (set : ℕ) (new : List ℕ) → set ≡ set_of most_states (reached A labels q) → Grown most_states (spread_over set lanes) old new → EnteredTo A labels (q + 1) here new
     unfolding spread_over
     entered_more set new es g = record {
       lanes = λ i r l k.
-          ap (member i) (g.numbers r ∙ ap (λ (b : Bool). cond b (union 16 (get_or old r 0) (spread_over set lanes r)) (get_or old r 0)) (lt-ltb r 16 k))
-          ∙ member_union 16 (get_or old r 0) (spread_over set lanes r) i l
+          ap (member i) (g.numbers r ∙ ap (λ (b : Bool). cond b (union most_lanes (get_or old r 0) (spread_over set lanes r)) (get_or old r 0)) (lt-ltb r most_states k))
+          ∙ member_union most_lanes (get_or old r 0) (spread_over set lanes r) i l
           ∙ ap₂ (λ (a b : Bool). a || b) (d.lanes i r l k)
-          (picked (member r set) i ∙ ap₂ (λ (a b : Bool). a && b) (ap (member i) el) (ap (member r) es ∙ member-set_of 16 (reached A labels q) r k))
+          (picked (member r set) i ∙ ap₂ (λ (a b : Bool). a && b) (ap (member i) el) (ap (member r) es ∙ member-set_of most_states (reached A labels q) r k))
           ∙ sym (some_below_more q (λ q. member i (get_or here q 0) && reached A labels q r));
     }
       where

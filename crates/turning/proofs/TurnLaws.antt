@@ -15,50 +15,50 @@ use Rattle.necklace.specs.Automaton.{Automaton}
 use Rattle.necklace.specs.Compute.{some_of}
 use Rattle.log_buffer.specs.Meaning.{steps_in, links_into, log_of}
 use Rattle.log_buffer.proofs.Meaning.{labels_are, preds_are}
-use Rattle.layout.specs.Layout.{labels_at}
+use Rattle.layout.specs.Layout.{most_labels, most_states, most_lanes}
 use Rattle.lists.specs.Places.{at}
 use Rattle.log_links.specs.Links.{BareIf}
-use Rattle.necklace.specs.Forward.{reached, arrives}
+use Rattle.necklace.specs.inner.Forward.{reached, arrives}
 use Rattle.lanes.specs.Lanes.{work_at, lane_in, Gathered, PutTo, BegunAt}
 use Rattle.turning.specs.Turning.{EnteredTo, Arrived, Turned}
 
 -- ---- arriving
 
-module _ (log : List ℕ) (A : Automaton) (work : List ℕ) (first x : ℕ) (inside : x < steps_in log) (here : List ℕ) (g : Gathered work first (links_into log x) here) where
-  come : (i q : ℕ) → i < 16 → q < 16 → member i (get_or here q 0) ≡ some_of (λ w. lane_in work first i w q) ((log_of log).preds x)
-  come i q l k = g.lanes i q l k ∙ ap (some_of (λ w. lane_in work first i w q)) (sym (preds_are log x inside))
+module _ (log labels : List ℕ) (A : Automaton) (work : List ℕ) (first x : ℕ) (inside : x < steps_in log) (here : List ℕ) (g : Gathered work first (links_into log x) here) where
+  come : (i q : ℕ) → i < most_lanes → q < most_states → member i (get_or here q 0) ≡ some_of (λ w. lane_in work first i w q) ((log_of log labels).preds x)
+  come i q l k = g.lanes i q l k ∙ ap (some_of (λ w. lane_in work first i w q)) (sym (preds_are log labels x inside))
 
-  pub arrived_bare : (t : Bool) → BareIf log x t → t ≡ true → Arrived (log_of log) A work first x here
+  pub arrived_bare : (t : Bool) → BareIf log labels x t → t ≡ true → Arrived (log_of log labels) A work first x here
   arrived_bare t bare e = record {
     lanes = λ i r l k.
-        come i r l k ∙ sym (some_below_is 16 (λ q. some_of (λ w. lane_in work first i w q) ((log_of log).preds x)) r k)
-        ∙ sym (ap (λ (ls : List ℕ). some_below 16 (λ q. some_of (λ w. lane_in work first i w q) ((log_of log).preds x) && reached A ls q r)) (bare.labels e));
+        come i r l k ∙ sym (some_below_is most_states (λ q. some_of (λ w. lane_in work first i w q) ((log_of log labels).preds x)) r k)
+        ∙ sym (ap (λ (ls : List ℕ). some_below most_states (λ q. some_of (λ w. lane_in work first i w q) ((log_of log labels).preds x) && reached A ls q r)) (bare.none e));
   }
 
-  pub arrived : (labels : ℕ) (next : List ℕ) → labels ≡ at log (labels_at x) → EnteredTo A (members 16 labels) 16 here next → Arrived (log_of log) A work first x next
-  arrived labels next e d' = record {
+  pub arrived : (set : ℕ) (next : List ℕ) → set ≡ at labels x → EnteredTo A (members most_labels set) most_states here next → Arrived (log_of log labels) A work first x next
+  arrived set next e d' = record {
     lanes = λ i r l k.
         d.lanes i r l k
-        ∙ some_below_ext 16 (λ q. member i (get_or here q 0) && reached A (members 16 (get_or log (1 + x) 0)) q r)
-        (λ q. some_of (λ w. lane_in work first i w q) ((log_of log).preds x) && reached A ((log_of log).labels x) q r)
-        (λ q m. ap₂ ◌&&◌ (come i q l m) (ap (λ (ls : List ℕ). reached A ls q r) (sym (labels_are log x inside))));
+        ∙ some_below_ext most_states (λ q. member i (get_or here q 0) && reached A (members most_labels (get_or labels x 0)) q r)
+        (λ q. some_of (λ w. lane_in work first i w q) ((log_of log labels).preds x) && reached A ((log_of log labels).labels x) q r)
+        (λ q m. ap₂ ◌&&◌ (come i q l m) (ap (λ (ls : List ℕ). reached A ls q r) (sym (labels_are log labels x inside))));
   }
     where
-      d : EnteredTo A (members 16 (get_or log (1 + x) 0)) 16 here next
+      d : EnteredTo A (members most_labels (get_or labels x 0)) most_states here next
       d = rw e at d'
 
 pub ruleset arriving_kit = (arrived_bare, arrived)
 
 -- ---- the turn
 
-pub turned : (G : Dag) (A : Automaton) (first begin x : ℕ) (here old mid new : List ℕ) → Arrived G A old first x here → PutTo 16 x here old mid → BegunAt x begin mid new
+pub turned : (G : Dag) (A : Automaton) (first begin x : ℕ) (here old mid new : List ℕ) → Arrived G A old first x here → PutTo most_states x here old mid → BegunAt x begin mid new
     → Turned G A first begin x old new
 turned G A first begin x here old mid new a p b = record {
   own = λ i r l k. go i r l k (ℕ_discrete r 0);
   others = λ w q k n. b.others (work_at w q) (λ z. n (omega arith)) ∙ p.others w q k n;
 }
   where
-    there : (i r : ℕ) → i < 16 → r < 16 → member i (get_or mid (work_at x r) 0) ≡ arrives G A (lane_in old first i) x r
+    there : (i r : ℕ) → i < most_lanes → r < most_states → member i (get_or mid (work_at x r) 0) ≡ arrives G A (lane_in old first i) x r
     there i r l k = ap (member i) (p.own r k) ∙ a.lanes i r l k
 
     swap : (a b : Bool) → (a || b) ≡ ((b && true) || a)
@@ -67,9 +67,9 @@ turned G A first begin x here old mid new a p b = record {
     swap false true = refl
     swap false false = refl
 
-    go : (i r : ℕ) → i < 16 → r < 16 → Dec (r ≡ 0) → member i (get_or new (work_at x r) 0) ≡ ((member i begin && eqb r 0) || arrives G A (lane_in old first i) x r)
+    go : (i r : ℕ) → i < most_lanes → r < most_states → Dec (r ≡ 0) → member i (get_or new (work_at x r) 0) ≡ ((member i begin && eqb r 0) || arrives G A (lane_in old first i) x r)
     go i r l k (yes z) =
-        let q : work_at x r ≡ 16 * x = omega arith in
+        let q : work_at x r ≡ most_states * x = omega arith in
         ap (λ (y : ℕ). member i (get_or new y 0)) q ∙ b.own i l
         ∙ ap (λ (c : Bool). c || member i begin) (ap (λ (y : ℕ). member i (get_or mid y 0)) (sym q) ∙ there i r l k)
         ∙ swap (arrives G A (lane_in old first i) x r) (member i begin)

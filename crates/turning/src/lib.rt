@@ -3,7 +3,7 @@
 
 ghost use Rattle.std.specs.Prelude.{◌<◌, ◌≤◌, length};
 ghost use Rattle.sets.specs.Sets.{members};
-ghost use Rattle.layout.specs.Layout.{work_length};
+ghost use Rattle.layout.specs.Layout.{work_length, most_labels, most_states};
 ghost use Rattle.pattern_buffer.specs.Meaning.{automaton_of};
 ghost use Rattle.log_buffer.specs.Meaning.{steps_in, log_of};
 ghost use Rattle.turning.specs.Turning.{EnteredTo, Arrived, Turned};
@@ -17,7 +17,7 @@ fn enter_all(
     labels: u16,
     here: &[u16; layout::MOST_STATES],
 ) -> [u16; layout::MOST_STATES]
-    ensures { EnteredTo (automaton_of bead.entry.pattern.now bead.entry.place) (members 16 labels) 16 here.now result }
+    ensures { EnteredTo (automaton_of bead.entry.pattern.now bead.entry.place) (members most_labels labels) most_states here.now result }
 {
     let mut next = [0u16; layout::MOST_STATES];
     for (state, &lanes) in here.iter().enumerate() {
@@ -38,7 +38,7 @@ fn arriving(
     work: &[u16],
 ) -> [u16; layout::MOST_STATES]
     requires { (x < steps_in log.numbers.now) × (work_length ≤ length work.now) }
-    ensures { Arrived (log_of log.entry.numbers.now) (automaton_of bead.entry.pattern.now bead.entry.place) work.now first x result }
+    ensures { Arrived (log_of log.entry.numbers.now log.entry.labels.now) (automaton_of bead.entry.pattern.now bead.entry.place) work.now first x result }
 {
     let here = lanes::before(log, x, first, work);
     if log.is_bare(x) {
@@ -51,7 +51,7 @@ fn arriving(
 #[tactic(auto, using(crate::proofs::TurnLaws::turned))]
 pub fn turn(bead: Bead, log: Log, first: usize, x: usize, begin: u16, work: &mut [u16])
     requires { (x < steps_in log.numbers.now) × (work_length ≤ length work.old) }
-    ensures { Turned (log_of log.entry.numbers.now) (automaton_of bead.entry.pattern.now bead.entry.place) first begin x work.old work.new }
+    ensures { Turned (log_of log.entry.numbers.now log.entry.labels.now) (automaton_of bead.entry.pattern.now bead.entry.place) first begin x work.old work.new }
 {
     let here = arriving(bead, log, first, x, work);
     lanes::put(&here, x, work);

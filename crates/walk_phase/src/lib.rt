@@ -1,12 +1,13 @@
 // The second phase: the walk back over the beads, for every step at which the whole pattern holds.
-// Rooms are slices of at least so many numbers, as each contract says: an array, or a struct with the bound, would take fewer or be made anew at each call.
+// Rooms are slices of at least so many numbers, as each contract says: an array, or a struct with the bound, would take fewer or be made anew at
+// each call.
 #![tactic(auto)]
 
 ghost use Rattle.std.specs.Prelude.{◌<◌, ◌≤◌, length};
-ghost use Rattle.layout.specs.Layout.{most_steps, work_length};
+ghost use Rattle.layout.specs.Layout.{most_steps, work_length, pivot_places};
 ghost use Rattle.log_buffer.specs.Meaning.{log_of, steps_in};
 ghost use Rattle.pattern_buffer.specs.Meaning.{beads_in, pattern_of};
-ghost use Rattle.prefix_phase.specs.Cases.{MarksOf};
+ghost use Rattle.prefix_phase.specs.Cases.{PrefixesMarkedBy};
 ghost use Rattle.walk_places.specs.Walked.{WalkedBack, Walked};
 ghost use Rattle.walk_turn.specs.Turns.{TurnIn, AimOf, Picked, Settled};
 
@@ -44,7 +45,7 @@ fn settle(
 ) -> Turn
     requires turn_in { (turn.from < opened.to) × TurnIn n turn opened.to }
     requires aimed { AimOf n turn found.now pivots.old opened.aim }
-    requires in_bounds { (most_steps ≤ length seeds.now) × (most_steps ≤ length found.now) × (9216 ≤ length pivots.old) }
+    requires in_bounds { (most_steps ≤ length seeds.now) × (most_steps ≤ length found.now) × (pivot_places ≤ length pivots.old) }
     ensures { Settled n turn opened seeds.now found.now pivots.old pivots.new result }
 {
     match opened.aim {
@@ -66,9 +67,9 @@ fn walk_turns(
     found: &mut [u16],
     work: &mut [u16],
 )
-    requires in_bounds { (9216 ≤ length pivots.old) × (most_steps ≤ length seeds.old) × (most_steps ≤ length found.old) × (work_length ≤ length work.old) }
-    requires walked { Walked (log_of walk.now.case.course.log.numbers.now) (pattern_of walk.now.case.course.pattern.now) (steps_in walk.now.case.course.log.numbers.now) (beads_in walk.now.case.course.pattern.now) 0 0 0 pivots.old }
-    ensures { WalkedBack (log_of walk.now.case.course.log.numbers.now) (pattern_of walk.now.case.course.pattern.now) (steps_in walk.now.case.course.log.numbers.now) pivots.new }
+    requires in_bounds { (pivot_places ≤ length pivots.old) × (most_steps ≤ length seeds.old) × (most_steps ≤ length found.old) × (work_length ≤ length work.old) }
+    requires walked { Walked (log_of walk.now.case.course.log.numbers.now walk.now.case.course.log.labels.now) (pattern_of walk.now.case.course.pattern.now) (steps_in walk.now.case.course.log.numbers.now) (beads_in walk.now.case.course.pattern.now) 0 0 0 pivots.old }
+    ensures { WalkedBack (log_of walk.now.case.course.log.numbers.now walk.now.case.course.log.labels.now) (pattern_of walk.now.case.course.pattern.now) (steps_in walk.now.case.course.log.numbers.now) pivots.new }
 {
     let n = walk.case.steps();
     let mut turn = Turn {
@@ -85,9 +86,9 @@ fn walk_turns(
 
 // Puts down the pivots of every step at which the whole pattern holds.
 pub fn walk_back(case: &Case, prefixes: &[u16], pivots: &mut [u16], work: &mut [u16])
-    requires marks { MarksOf case.now prefixes.now }
-    requires in_bounds { (most_steps ≤ length prefixes.now) × (9216 ≤ length pivots.old) × (work_length ≤ length work.old) }
-    ensures { WalkedBack (log_of case.now.course.log.numbers.now) (pattern_of case.now.course.pattern.now) (steps_in case.now.course.log.numbers.now) pivots.new }
+    requires marks { PrefixesMarkedBy case.now prefixes.now }
+    requires in_bounds { (most_steps ≤ length prefixes.now) × (pivot_places ≤ length pivots.old) × (work_length ≤ length work.old) }
+    ensures { WalkedBack (log_of case.now.course.log.numbers.now case.now.course.log.labels.now) (pattern_of case.now.course.pattern.now) (steps_in case.now.course.log.numbers.now) pivots.new }
 {
     let mut seeds = [0u16; layout::MOST_STEPS];
     let mut found = [0u16; layout::MOST_STEPS];
@@ -95,6 +96,7 @@ pub fn walk_back(case: &Case, prefixes: &[u16], pivots: &mut [u16], work: &mut [
     walk_places::start_walk(
         course.pattern,
         course.log.numbers,
+        course.log.labels,
         case.beads(),
         case.steps(),
         prefixes,

@@ -15,17 +15,18 @@ use Rattle.marking.proofs.AddLaws.{reversed_all}
 use Rattle.std.specs.Prelude.{Option, Some, None}
 use Rattle.std.specs.Option.{MatchOption}
 use Rattle.std.proofs.lemmas.Option.{same_Some, none-some}
+use Rattle.layout.specs.Layout.{most_steps}
 use Rattle.rows.specs.Rows.{pivot_at}
 use Rattle.walk_places.specs.Search.{NoneSearch, LastsIn, LastAt, ServedAt, NoneLook, NextAt, NextStep}
 
 -- ---- does no step search any more?
 
 pub none_have : (k from n : ℕ) (pivots : List ℕ) (r : Bool)
-    → r ≡ list_all (λ x. not (eqb x n)) (reverse (take (1024 * k + n - (1024 * k + from)) (drop (1024 * k + from) pivots)))
-    → (from ≤ n) × (1024 * k + n ≤ length pivots) → NoneSearch k from n pivots r
+    → r ≡ list_all (λ x. not (eqb x n)) (reverse (take (most_steps * k + n - (most_steps * k + from)) (drop (most_steps * k + from) pivots)))
+    → (from ≤ n) × (most_steps * k + n ≤ length pivots) → NoneSearch k from n pivots r
 none_have k from n pivots r e inside = record {
   found = λ y v h l z.
-      let t = reversed_all (λ x. not (eqb x n)) (1024 * k + from) (1024 * k + n) pivots (omega arith) (sym e ∙ y) (pivot_at k v) (omega arith) (omega arith) in
+      let t = reversed_all (λ x. not (eqb x n)) (most_steps * k + from) (most_steps * k + n) pivots (omega arith) (sym e ∙ y) (pivot_at k v) (omega arith) (omega arith) in
       let f : eqb (get_or pivots (pivot_at k v) 0) n ≡ true = eq-eqb (get_or pivots (pivot_at k v) 0) n z in
       let g : false ≡ true = sym (ap not f) ∙ t in
       cc;

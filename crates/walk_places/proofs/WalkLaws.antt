@@ -15,16 +15,17 @@ use Rattle.necklace.specs.Dag.{Dag}
 use Rattle.necklace.specs.Necklace.{Pattern}
 use Rattle.necklace.specs.Compute.{holds?, serves?}
 use Rattle.necklace.proofs.Prefixes.{First, before_first}
+use Rattle.layout.specs.Layout.{most_steps}
 use Rattle.rows.specs.Rows.{pivot_at}
 use Rattle.prefix_phase.proofs.PrefixPhase.{one_turn}
 use Rattle.walk_places.specs.Walked.{pivot_back, pivot_of, sought, looked, Walked, WalkedBack}
 use Rattle.walk_places.proofs.PivotLaws.{back_none, back_more, back_holds}
 
 -- A vertex's place among the pivots of a bead is no other's.
-one_place : (j w k v : ℕ) → w < 1024 → v < 1024 → pivot_at j w ≡ pivot_at k v → (j ≡ k) × (w ≡ v)
+one_place : (j w k v : ℕ) → w < most_steps → v < most_steps → pivot_at j w ≡ pivot_at k v → (j ≡ k) × (w ≡ v)
 one_place j w k v h l e =
-    let q : j * 1024 + w ≡ k * 1024 + v = omega arith in
-    one_turn 1024 j w k v h l q
+    let q : j * most_steps + w ≡ k * most_steps + v = omega arith in
+    one_turn most_steps j w k v h l q
 
 -- ---- how many candidates have been looked at
 
@@ -205,7 +206,7 @@ module _ (G : Dag) (P : Pattern) (n : ℕ) where
 
     -- ---- a step of a turn: candidates from `from` on and below `to`
 
-    module _ (from to v : ℕ) (some : from ≤ to) (most : to ≤ n) (inside : v < n) (small : n ≤ 1024) (pivots : List ℕ) (w : Walked G P n (suc k) from to v pivots) where
+    module _ (from to v : ℕ) (some : from ≤ to) (most : to ≤ n) (inside : v < n) (small : n ≤ most_steps) (pivots : List ℕ) (w : Walked G P n (suc k) from to v pivots) where
       pub own_place : get_or pivots (pivot_at k v) 0 ≡ sought G P n k from v
       own_place = w.places k v bead inside ∙ ap (λ (u : ℕ). sought G P n k u v) (looked_rest n (suc k) from to v k v refl (omega arith))
 
@@ -296,7 +297,7 @@ module _ (G : Dag) (P : Pattern) (n : ℕ) where
           go j u c l (no e) z = kept j u c l (λ q. e q.0) (looked_other n (suc k) from to v from to (v + 1) j u (λ y. e (omega arith)))
 
     -- steps are passed over that do not search, or for which no candidate serves
-    pub walked_along : (from to d v : ℕ) → from ≤ to → to ≤ n → n ≤ 1024 → v + d ≤ n → (pivots : List ℕ) → Walked G P n (suc k) from to v pivots
+    pub walked_along : (from to d v : ℕ) → from ≤ to → to ≤ n → n ≤ most_steps → v + d ≤ n → (pivots : List ℕ) → Walked G P n (suc k) from to v pivots
         → ((w : ℕ) → v ≤ w → w < v + d → Walked G P n (suc k) from to w pivots → get_or pivots (pivot_at k w) 0 ≡ n → (u : ℕ) → from ≤ u → u < to
         → serves? G P k (get_or pivots (pivot_at (suc k) w) 0) u ≡ false)
         → Walked G P n (suc k) from to (v + d) pivots

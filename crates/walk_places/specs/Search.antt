@@ -1,5 +1,6 @@
 -- Which vertices still search for their pivot, by what stands at their places.
 use Rattle.std.specs.Prelude.{ℕ, ◌-◌, ◌≤◌, ◌<◌, ◌≡◌, Bool, true, false, List, get_or, Option, Some, None}
+use Rattle.layout.specs.Layout.{most_steps}
 use Rattle.rows.specs.Rows.{pivot_at}
 
 -- If so, no vertex from `from` on searches for its pivot.
@@ -8,12 +9,12 @@ pub record NoneSearch (k from n : ℕ) (pivots : List ℕ) (r : Bool) : Type 0 w
 
 -- The pivots picked last are steps.
 pub record LastsIn (left n : ℕ) (pivots : List ℕ) : Type 0 where
-  pub inside : (v : ℕ) → v < n → get_or pivots (pivot_at left v) 0 < 1024
+  pub inside : (v : ℕ) → v < n → get_or pivots (pivot_at left v) 0 < most_steps
 
 -- The pivot of v picked last is p.
 pub record LastAt (left : ℕ) (pivots : List ℕ) (v p : ℕ) : Type 0 where
   pub is : p ≡ get_or pivots (pivot_at left v) 0
-  pub small : p < 1024
+  pub small : p < most_steps
 
 -- If not, the vertex v does not search, or no lane reaches its pivot picked last. If so, it searches.
 pub record ServedAt (left n : ℕ) (found pivots : List ℕ) (v : ℕ) (r : Bool) : Type 0 where

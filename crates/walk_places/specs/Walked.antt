@@ -4,6 +4,7 @@ use Rattle.sets.specs.Sets.{member}
 use Rattle.necklace.specs.Dag.{Dag}
 use Rattle.necklace.specs.Necklace.{Pattern}
 use Rattle.necklace.specs.Compute.{holds?, before}
+use Rattle.layout.specs.Layout.{most_steps}
 use Rattle.rows.specs.Rows.{pivot_at}
 
 -- The pivot of the first k beads in the walk back from v over a pattern of k + d beads.
@@ -41,4 +42,4 @@ pub record Walked (G : Dag) (P : Pattern) (n left from to step : ℕ) (pivots : 
 
 -- What stands at the places before the walk: n where the whole pattern holds, else 0; and the last pivots.
 unfoldable pub first_place : ℕ → ℕ → List ℕ → ℕ → ℕ
-first_place beads n sets i = cond (ltb (i / 1024) beads) (cond (member (beads - 1) (get_or sets (i % 1024) 0)) n 0) (i % 1024)
+first_place beads n sets i = cond (ltb (i / most_steps) beads) (cond (member (beads - 1) (get_or sets (i % most_steps) 0)) n 0) (i % most_steps)

@@ -21,13 +21,14 @@ use Rattle.pattern_buffer.specs.Meaning.{beads_in, pattern_of}
 use Rattle.rows.specs.Rows.{pivot_at}
 use Rattle.starts.specs.Starts.{prefix_at, Earlier}
 use Rattle.serving.specs.Serving.{Asked, Served, ServedIf}
-use Rattle.prefix_phase.specs.Marked.{Tried, Marks}
+use Rattle.prefix_phase.specs.Marked.{Tested, PrefixesMarked}
 use Rattle.starts.specs.declared.Lanes.TheVariants.{Own}
 use Rattle.prefix_phase.proofs.MarkLaws.{pass_of}
 use Rattle.walk_places.specs.Walked.{sought, Walked}
 use Rattle.walk_places.specs.Search.{NoneSearch, LastsIn, LastAt, NoneLook, NextStep}
 use Rattle.std.specs.Prelude.{Option, Some, None, unwrap_or}
 use Rattle.std.proofs.lemmas.Option.{same_Some, none-some}
+use Rattle.layout.specs.Layout.{most_beads, most_lanes, most_steps, pivot_places}
 use Rattle.walk_places.proofs.WalkLaws.{looked_rest, walked_to, walked_on, walked_down, own_place, next_small, walked_skip, walked_put, walked_along}
 use Rattle.walk_turn.specs.declared.Turn.{Turn}
 use Rattle.walk_turn.specs.declared.Aim.{Aim}
@@ -39,7 +40,7 @@ unfolding pattern_of
 count_is pattern = refl
 
 -- The marks of all prefixes give those before any bead.
-earlier_marked : (G : Dag) (P : Pattern) (n : ℕ) (sets : List ℕ) → Marks G P n sets → (k : ℕ) → k ≤ P.count → Earlier G P k n sets
+earlier_marked : (G : Dag) (P : Pattern) (n : ℕ) (sets : List ℕ) → PrefixesMarked G P n sets → (k : ℕ) → k ≤ P.count → Earlier G P k n sets
 unfolding prefix_at holds?
 earlier_marked G P n sets m zero h = record { holds = λ u l. refl }
 earlier_marked G P n sets m (suc k) h = record { holds = λ u l. ap (member k) (m.marked u l) ∙ prefixes_member G P u k (omega arith) }
@@ -57,8 +58,8 @@ module _ (G : Dag) (P : Pattern) (n left from to step : ℕ) (pivots : List ℕ)
   by_left : Walked G P n (suc (left - 1)) from to step pivots → Walked G P n left from to step pivots
   by_left w = subst (λ (l : ℕ). Walked G P n l from to step pivots) (last_left left h) w
 
-module _ (pattern log : List ℕ) (n : ℕ) (turn : Turn) (seeds found pivots : List ℕ) (d : Due pattern log n turn seeds found pivots) where
-  w : Walking pattern log n turn seeds found pivots
+module _ (pattern log labels : List ℕ) (n : ℕ) (turn : Turn) (seeds found pivots : List ℕ) (d : Due pattern log labels n turn seeds found pivots) where
+  w : Walking pattern log labels n turn seeds found pivots
   w = d.walking
 
   h : 1 ≤ turn.left
@@ -67,27 +68,27 @@ module _ (pattern log : List ℕ) (n : ℕ) (turn : Turn) (seeds found pivots : 
   bead : turn.left - 1 < (pattern_of pattern).count
   bead = let b = w.beads in let s = h in omega arith
 
-  pub open_few : n ≤ 1024
+  pub open_few : n ≤ most_steps
   open_few = (w.turn_in h).few
 
-  pub open_bead : turn.left - 1 < 8
+  pub open_bead : turn.left - 1 < most_beads
   open_bead = let p = (w.turn_in h).place in let s = h in omega arith
 
   pub open_begin : turn.from ≤ n
   open_begin = let s = (w.turn_in h).start in omega arith
 
-  pub open_asked : (sets : List ℕ) → Tried pattern log → Marks (log_of log) (pattern_of pattern) (steps_in log) sets
-      → Asked pattern log (steps_in log) (turn.left - 1) turn.from sets
+  pub open_asked : (sets : List ℕ) → Tested pattern log labels → PrefixesMarked (log_of log labels) (pattern_of pattern) (steps_in log) sets
+      → Asked pattern log labels (steps_in log) (turn.left - 1) turn.from sets
   open_asked sets t m = record {
-    pass = pass_of pattern log t (turn.left - 1) (let c = count_is pattern in let b = bead in omega arith);
+    pass = pass_of pattern log labels t (turn.left - 1) (let c = count_is pattern in let b = bead in omega arith);
     bead = let c = count_is pattern in let b = bead in omega arith;
     steps_are = refl;
     begin = let s = (w.turn_in h).start in let e = d.steps_are in omega arith;
-    earlier = earlier_marked (log_of log) (pattern_of pattern) (steps_in log) sets m (turn.left - 1) (let b = bead in omega arith);
+    earlier = earlier_marked (log_of log labels) (pattern_of pattern) (steps_in log) sets m (turn.left - 1) (let b = bead in omega arith);
   }
 
   -- once its candidates are found it stays as it is
-  pub open_going : (to : ℕ) → turn.to ≡ Some to → TurnReady pattern log n turn to seeds found pivots
+  pub open_going : (to : ℕ) → turn.to ≡ Some to → TurnReady pattern log labels n turn to seeds found pivots
   open_going to e =
       let t : known_to turn ≡ to = ap (λ (o : Option ℕ). unwrap_or o turn.from) e in
       record {
@@ -95,28 +96,28 @@ module _ (pattern log : List ℕ) (n : ℕ) (turn : Turn) (seeds found pivots : 
         beads = w.beads;
         more = w.more to e;
         served = w.served to e;
-        walked = subst (λ (x : ℕ). Walked (log_of log) (pattern_of pattern) n turn.left turn.from x turn.step pivots) t w.walked;
+        walked = subst (λ (x : ℕ). Walked (log_of log labels) (pattern_of pattern) n turn.left turn.from x turn.step pivots) t w.walked;
       }
 
   module _ (l : turn.to ≡ None) (seeds' found' : List ℕ) where
     first : turn.step ≡ turn.from
     first = let a = (w.turn_in h).low in let b = w.first l in omega arith
 
-    before : Walked (log_of log) (pattern_of pattern) n (suc (turn.left - 1)) turn.from (known_to turn) turn.from pivots
+    before : Walked (log_of log labels) (pattern_of pattern) n (suc (turn.left - 1)) turn.from (known_to turn) turn.from pivots
     before =
-        subst (λ (s : ℕ). Walked (log_of log) (pattern_of pattern) n (suc (turn.left - 1)) turn.from (known_to turn) s pivots) first
-        (by_bead (log_of log) (pattern_of pattern) n turn.left turn.from (known_to turn) turn.step pivots h w.walked)
+        subst (λ (s : ℕ). Walked (log_of log labels) (pattern_of pattern) n (suc (turn.left - 1)) turn.from (known_to turn) s pivots) first
+        (by_bead (log_of log labels) (pattern_of pattern) n turn.left turn.from (known_to turn) turn.step pivots h w.walked)
 
-    own : (v : ℕ) → turn.from ≤ v → v < n → get_or pivots (pivot_at (turn.left - 1) v) 0 ≡ sought (log_of log) (pattern_of pattern) n (turn.left - 1) turn.from v
+    own : (v : ℕ) → turn.from ≤ v → v < n → get_or pivots (pivot_at (turn.left - 1) v) 0 ≡ sought (log_of log labels) (pattern_of pattern) n (turn.left - 1) turn.from v
     own v a b =
         before.places (turn.left - 1) v bead b
-        ∙ ap (λ (u : ℕ). sought (log_of log) (pattern_of pattern) n (turn.left - 1) u v)
+        ∙ ap (λ (u : ℕ). sought (log_of log labels) (pattern_of pattern) n (turn.left - 1) u v)
         (looked_rest n (suc (turn.left - 1)) turn.from (known_to turn) turn.from (turn.left - 1) v refl a)
 
     -- at its first step
     opened : (r : ℕ) → turn.from < r → r ≤ n
-        → ((v : ℕ) → turn.from ≤ v → v < n → get_or pivots (pivot_at (turn.left - 1) v) 0 ≡ n → Served pattern log n (turn.left - 1) turn.from r seeds' found')
-        → TurnReady pattern log n turn r seeds' found' pivots
+        → ((v : ℕ) → turn.from ≤ v → v < n → get_or pivots (pivot_at (turn.left - 1) v) 0 ≡ n → Served pattern log labels n (turn.left - 1) turn.from r seeds' found')
+        → TurnReady pattern log labels n turn r seeds' found' pivots
     opened r some inside served = record {
       turn_in = record {
         some = h;
@@ -131,25 +132,25 @@ module _ (pattern log : List ℕ) (n : ℕ) (turn : Turn) (seeds found pivots : 
       beads = w.beads;
       more = some;
       served = λ v a b e. served v a b (own v a b ∙ e);
-      walked = by_left (log_of log) (pattern_of pattern) n turn.left turn.from r turn.step pivots h
-          (subst (λ (s : ℕ). Walked (log_of log) (pattern_of pattern) n (suc (turn.left - 1)) turn.from r s pivots) (sym first)
-          (walked_to (log_of log) (pattern_of pattern) n (turn.left - 1) bead turn.from (known_to turn) r pivots (w.turn_in h).up (omega arith) before));
+      walked = by_left (log_of log labels) (pattern_of pattern) n turn.left turn.from r turn.step pivots h
+          (subst (λ (s : ℕ). Walked (log_of log labels) (pattern_of pattern) n (suc (turn.left - 1)) turn.from r s pivots) (sym first)
+          (walked_to (log_of log labels) (pattern_of pattern) n (turn.left - 1) bead turn.from (known_to turn) r pivots (w.turn_in h).up (omega arith) before));
     }
 
-    pub open_done : (b : Bool) → NoneSearch (turn.left - 1) turn.from n pivots b → b ≡ true → TurnReady pattern log n turn n seeds' found' pivots
+    pub open_done : (b : Bool) → NoneSearch (turn.left - 1) turn.from n pivots b → b ≡ true → TurnReady pattern log labels n turn n seeds' found' pivots
     open_done b d e = opened n (w.turn_in h).start (omega arith) (λ v a l z. absurd (d.found e v a l z))
 
-    pub open_made : (r : ℕ) → ServedIf Own pattern log (steps_in log) (turn.left - 1) turn.from r seeds' found' → TurnReady pattern log n turn r seeds' found' pivots
+    pub open_made : (r : ℕ) → ServedIf Own pattern log labels (steps_in log) (turn.left - 1) turn.from r seeds' found' → TurnReady pattern log labels n turn r seeds' found' pivots
     open_made r i =
-        let s : Served pattern log n (turn.left - 1) turn.from r seeds' found' =
-        subst (λ (m : ℕ). Served pattern log m (turn.left - 1) turn.from r seeds' found') (sym d.steps_are) (i.each refl) in
+        let s : Served pattern log labels n (turn.left - 1) turn.from r seeds' found' =
+        subst (λ (m : ℕ). Served pattern log labels m (turn.left - 1) turn.from r seeds' found') (sym d.steps_are) (i.each refl) in
         opened r s.some s.inside (λ v a l z. s)
 
   pub open_lasts : LastsIn turn.left n pivots
   open_lasts = record {
     inside = λ v l.
-        let s = next_small (log_of log) (pattern_of pattern) n (turn.left - 1) bead turn.from (known_to turn) turn.step v l pivots
-        (by_bead (log_of log) (pattern_of pattern) n turn.left turn.from (known_to turn) turn.step pivots h w.walked) in
+        let s = next_small (log_of log labels) (pattern_of pattern) n (turn.left - 1) bead turn.from (known_to turn) turn.step v l pivots
+        (by_bead (log_of log labels) (pattern_of pattern) n turn.left turn.from (known_to turn) turn.step pivots h w.walked) in
         let e : get_or pivots (pivot_at (suc (turn.left - 1)) v) 0 ≡ get_or pivots (pivot_at turn.left v) 0 = ap (λ (x : ℕ). get_or pivots (pivot_at x v) 0) (last_left turn.left h) in
         let f = (w.turn_in h).few in
         omega arith;
@@ -178,9 +179,9 @@ pub ruleset aim_kit = (aim_some, aim_none, aim_inside)
 
 -- ---- its place
 
-pub put_some : (turn : Turn) (step u : ℕ) (picked : Option ℕ) (old : List ℕ) → picked ≡ Some u → PutDown turn step picked old (set old (1024 * (turn.left - 1) + step) u)
+pub put_some : (turn : Turn) (step u : ℕ) (picked : Option ℕ) (old : List ℕ) → picked ≡ Some u → PutDown turn step picked old (set old (most_steps * (turn.left - 1) + step) u)
 put_some turn step u picked old e = record {
-  some = λ w z. ap (set old (1024 * (turn.left - 1) + step)) (same_Some _ _ (sym e ∙ z));
+  some = λ w z. ap (set old (most_steps * (turn.left - 1) + step)) (same_Some _ _ (sym e ∙ z));
   none = λ z. absurd (none-some _ (sym z ∙ e));
 }
 
@@ -190,16 +191,16 @@ put_none turn step picked old e = record { some = λ w z. absurd (none-some _ (s
 pub ruleset put_kit = (put_some, put_none)
 
 -- no lane begins at u and reaches p, if none reaches it
-none_overlaps : (s t : ℕ) → t ≡ 0 → overlaps 16 s t ≡ false
+none_overlaps : (s t : ℕ) → t ≡ 0 → overlaps most_lanes s t ≡ false
 none_overlaps s t e =
-    ap (overlaps 16 s) e
-    ∙ no_false (overlaps 16 s 0)
-    (λ y. let i = some_below_out 16 (λ i. member i s && member i 0) y in
+    ap (overlaps most_lanes s) e
+    ∙ no_false (overlaps most_lanes s 0)
+    (λ y. let i = some_below_out most_lanes (λ i. member i s && member i 0) y in
     false_no (member i.0 0) (member_empty i.0) (and_r (member i.0 s) (member i.0 0) i.2))
 
-module _ (pattern log : List ℕ) (n : ℕ) (turn : Turn) (to : ℕ) (seeds found pivots : List ℕ) (r : TurnReady pattern log n turn to seeds found pivots) where
+module _ (pattern log labels : List ℕ) (n : ℕ) (turn : Turn) (to : ℕ) (seeds found pivots : List ℕ) (r : TurnReady pattern log labels n turn to seeds found pivots) where
   abbrev G : Dag
-  G = log_of log
+  G = log_of log labels
 
   abbrev P : Pattern
   P = pattern_of pattern
@@ -225,12 +226,12 @@ module _ (pattern log : List ℕ) (n : ℕ) (turn : Turn) (to : ℕ) (seeds foun
     last_is : get_or pivots (pivot_at (suc k) v) 0 ≡ get_or pivots (pivot_at turn.left v) 0
     last_is = ap (λ (l : ℕ). get_or pivots (pivot_at l v) 0) left
 
-    serve : get_or pivots (pivot_at k v) 0 ≡ n → Served pattern log n k turn.from to seeds found
+    serve : get_or pivots (pivot_at k v) 0 ≡ n → Served pattern log labels n k turn.from to seeds found
     serve e = r.served v low inside (sym (own_place G P n k bead_in turn.from to v r.turn_in.up r.turn_in.most inside r.turn_in.few pivots w) ∙ e)
 
     -- what the lanes say of a candidate
     serves_is : get_or pivots (pivot_at k v) 0 ≡ n → (u p : ℕ) → p ≡ get_or pivots (pivot_at turn.left v) 0 → turn.from ≤ u → u < to
-        → overlaps 16 (get_or seeds u 0) (get_or found p 0) ≡ serves? G P k (get_or pivots (pivot_at (suc k) v) 0) u
+        → overlaps most_lanes (get_or seeds u 0) (get_or found p 0) ≡ serves? G P k (get_or pivots (pivot_at (suc k) v) 0) u
     serves_is e u p ep a b =
         let q : p ≡ get_or pivots (pivot_at (suc k) v) 0 = ep ∙ sym last_is in
         (serve e).serves u p a b (let l = last_in in omega arith) ∙ ap (λ (t : ℕ). serves? G P k t u) q
@@ -256,7 +257,7 @@ module _ (pattern log : List ℕ) (n : ℕ) (turn : Turn) (to : ℕ) (seeds foun
 
   -- a step is aimed at
   module _ (aim : Aim) (a : AimAt n turn found pivots aim) (picked : Option ℕ) (pick : Picked seeds found aim.pivot turn.from to picked) (new : List ℕ)
-      (down : PutDown turn aim.step picked pivots new) (long : 9216 ≤ length pivots) where
+      (down : PutDown turn aim.step picked pivots new) (long : pivot_places ≤ length pivots) where
     stands_at : Walked G P n (suc k) turn.from to aim.step pivots
     stands_at = along aim.step a.next.low (let i = a.next.inside in omega arith) a.next.before
 
@@ -282,11 +283,11 @@ module _ (pattern log : List ℕ) (n : ℕ) (turn : Turn) (to : ℕ) (seeds foun
             (let x = r.turn_in.place in let y = r.turn_in.some in let z = r.turn_in.few in let i = a.next.inside in omega arith))
 
 -- aim is taken in a turn that is ready
-pub begins : (pattern log : List ℕ) (n : ℕ) (turn : Turn) (to : ℕ) (aim : Option Aim) (seeds found pivots : List ℕ) → TurnReady pattern log n turn to seeds found pivots
-    → AimOf n turn found pivots aim → Begun pattern log n turn (record { to = to; aim = aim }) seeds found pivots
-begins pattern log n turn to aim seeds found pivots r a = record { aimed = a; ready = r }
+pub begins : (pattern log labels : List ℕ) (n : ℕ) (turn : Turn) (to : ℕ) (aim : Option Aim) (seeds found pivots : List ℕ) → TurnReady pattern log labels n turn to seeds found pivots
+    → AimOf n turn found pivots aim → Begun pattern log labels n turn (record { to = to; aim = aim }) seeds found pivots
+begins pattern log labels n turn to aim seeds found pivots r a = record { aimed = a; ready = r }
 
-module _ (pattern log : List ℕ) (n : ℕ) (turn : Turn) (opened : Opened) (seeds found pivots : List ℕ) (b : Begun pattern log n turn opened seeds found pivots) where
+module _ (pattern log labels : List ℕ) (n : ℕ) (turn : Turn) (opened : Opened) (seeds found pivots : List ℕ) (b : Begun pattern log labels n turn opened seeds found pivots) where
   pub begun_more : turn.from < opened.to
   begun_more = b.ready.more
 
@@ -296,31 +297,31 @@ module _ (pattern log : List ℕ) (n : ℕ) (turn : Turn) (opened : Opened) (see
   pub begun_aim : AimOf n turn found pivots opened.aim
   begun_aim = b.aimed
 
-  module _ (new : List ℕ) (next : Turn) (s : Settled n turn opened seeds found pivots new next) (long : 9216 ≤ length pivots) where
+  module _ (new : List ℕ) (next : Turn) (s : Settled n turn opened seeds found pivots new next) (long : pivot_places ≤ length pivots) where
     -- the turn after it
-    goes_on : (after : ℕ) → Next n turn opened.to after next → Walked (log_of log) (pattern_of pattern) n turn.left turn.from opened.to after new
-        → Walking pattern log n next seeds found new
+    goes_on : (after : ℕ) → Next n turn opened.to after next → Walked (log_of log labels) (pattern_of pattern) n turn.left turn.from opened.to after new
+        → Walking pattern log labels n next seeds found new
     goes_on after x w = record {
       beads = let a = x.beads in let c = b.ready.beads in omega arith;
       turn_in = x.turn_in;
       first = x.first;
       more = λ t e. let s = x.same t e in let a = s.0 in let f = s.2 in let m = b.ready.more in omega arith;
       served = λ t e. let s = x.same t e in rw (s.0, s.1, s.2) b.ready.served;
-      walked = x.walked (log_of log) (pattern_of pattern) new b.ready.beads w;
+      walked = x.walked (log_of log labels) (pattern_of pattern) new b.ready.beads w;
     }
 
-    pub walks_on : Walking pattern log n next seeds found new
+    pub walks_on : Walking pattern log labels n next seeds found new
     walks_on = go opened.aim refl
       where
-        go : (q : Option Aim) → opened.aim ≡ q → Walking pattern log n next seeds found new
+        go : (q : Option Aim) → opened.aim ≡ q → Walking pattern log labels n next seeds found new
         go None e =
             let t = s.none e in
             goes_on n t.1
-            (subst (λ (l : List ℕ). Walked (log_of log) (pattern_of pattern) n turn.left turn.from opened.to n l) (sym t.0)
-            (passed_all pattern log n turn opened.to seeds found pivots b.ready (b.aimed.none e)))
+            (subst (λ (l : List ℕ). Walked (log_of log labels) (pattern_of pattern) n turn.left turn.from opened.to n l) (sym t.0)
+            (passed_all pattern log labels n turn opened.to seeds found pivots b.ready (b.aimed.none e)))
         go (Some a) e =
             let t = s.some a e in
-            goes_on (a.step + 1) t.after (passed pattern log n turn opened.to seeds found pivots b.ready a (b.aimed.some a e) t.picked t.pick new t.down long)
+            goes_on (a.step + 1) t.after (passed pattern log labels n turn opened.to seeds found pivots b.ready a (b.aimed.some a e) t.picked t.pick new t.down long)
 
 -- ---- the search
 
@@ -329,14 +330,14 @@ module _ (seeds found : List ℕ) (p from : ℕ) where
   seek_none = record { none = λ w a l. absurd (omega arith) }
 
   module _ (u : ℕ) (s : NoneServe seeds found p from u) where
-    pub seek_on : (b : Bool) → b ≡ overlaps 16 (get_or seeds u 0) (get_or found p 0) → b ≡ false → NoneServe seeds found p from (u + 1)
+    pub seek_on : (b : Bool) → b ≡ overlaps most_lanes (get_or seeds u 0) (get_or found p 0) → b ≡ false → NoneServe seeds found p from (u + 1)
     seek_on b e f = record { none = λ w a l. go w a l (ℕ_discrete w u) }
       where
-        go : (w : ℕ) → from ≤ w → w < u + 1 → Dec (w ≡ u) → overlaps 16 (get_or seeds w 0) (get_or found p 0) ≡ false
+        go : (w : ℕ) → from ≤ w → w < u + 1 → Dec (w ≡ u) → overlaps most_lanes (get_or seeds w 0) (get_or found p 0) ≡ false
         go w a l (yes z) = rw z (sym e ∙ f)
         go w a l (no z) = s.none w a (omega arith)
 
-    pub seek_found : (to : ℕ) (b : Bool) → b ≡ overlaps 16 (get_or seeds u 0) (get_or found p 0) → b ≡ true → from ≤ u → u < to → Picked seeds found p from to (Some u)
+    pub seek_found : (to : ℕ) (b : Bool) → b ≡ overlaps most_lanes (get_or seeds u 0) (get_or found p 0) → b ≡ true → from ≤ u → u < to → Picked seeds found p from to (Some u)
     seek_found to b e f low high = record {
       some = λ w z. subst (FirstServes seeds found p from to) (same_Some _ _ z) (record { low = low; high = high; serves = sym e ∙ f; before = s });
       none = λ z. absurd (none-some _ (sym z));

@@ -3,6 +3,7 @@ use Rattle.std.specs.Prelude.{ℕ, suc, ◌+◌, ◌-◌, ◌*◌, ◌≤◌, �
 use Rattle.sets.specs.Sets.{overlaps}
 use Rattle.necklace.specs.Dag.{Dag}
 use Rattle.necklace.specs.Necklace.{Pattern}
+use Rattle.layout.specs.Layout.{most_beads, most_lanes, most_steps}
 use Rattle.pattern_buffer.specs.Meaning.{pattern_of}
 use Rattle.log_buffer.specs.Meaning.{steps_in, log_of}
 use Rattle.rows.specs.Rows.{pivot_at}
@@ -20,8 +21,8 @@ known_to turn = unwrap_or turn.to turn.from
 -- A turn, with its candidates below `to`, lies inside the walk.
 pub record TurnIn (n : ℕ) (turn : Turn) (to : ℕ) : Type 0 where
   pub some : 1 ≤ turn.left
-  pub place : turn.left ≤ 8
-  pub few : n ≤ 1024
+  pub place : turn.left ≤ most_beads
+  pub few : n ≤ most_steps
   pub start : turn.from < n
   pub low : turn.from ≤ turn.step
   pub inside : turn.step < n
@@ -29,29 +30,29 @@ pub record TurnIn (n : ℕ) (turn : Turn) (to : ℕ) : Type 0 where
   pub most : to ≤ n
 
 -- Between turns. Until its candidates are found a turn is at its first step.
-pub record Walking (pattern log : List ℕ) (n : ℕ) (turn : Turn) (seeds found pivots : List ℕ) : Type 0 where
+pub record Walking (pattern log labels : List ℕ) (n : ℕ) (turn : Turn) (seeds found pivots : List ℕ) : Type 0 where
   pub beads : turn.left ≤ (pattern_of pattern).count
   pub turn_in : 1 ≤ turn.left → TurnIn n turn (known_to turn)
   pub first : turn.to ≡ None → turn.step ≤ turn.from
   pub more : (to : ℕ) → turn.to ≡ Some to → turn.from < to
-  pub served : (to : ℕ) → turn.to ≡ Some to → (v : ℕ) → turn.from ≤ v → v < n → sought (log_of log) (pattern_of pattern) n (turn.left - 1) turn.from v ≡ n
-      → Served pattern log n (turn.left - 1) turn.from to seeds found
-  pub walked : Walked (log_of log) (pattern_of pattern) n turn.left turn.from (known_to turn) turn.step pivots
+  pub served : (to : ℕ) → turn.to ≡ Some to → (v : ℕ) → turn.from ≤ v → v < n → sought (log_of log labels) (pattern_of pattern) n (turn.left - 1) turn.from v ≡ n
+      → Served pattern log labels n (turn.left - 1) turn.from to seeds found
+  pub walked : Walked (log_of log labels) (pattern_of pattern) n turn.left turn.from (known_to turn) turn.step pivots
 
 -- A turn is due: a bead is left, and n is the step count.
-pub record Due (pattern log : List ℕ) (n : ℕ) (turn : Turn) (seeds found pivots : List ℕ) : Type 0 where
+pub record Due (pattern log labels : List ℕ) (n : ℕ) (turn : Turn) (seeds found pivots : List ℕ) : Type 0 where
   pub some : 1 ≤ turn.left
   pub steps_are : n ≡ steps_in log
-  pub walking : Walking pattern log n turn seeds found pivots
+  pub walking : Walking pattern log labels n turn seeds found pivots
 
 -- A turn is ready: its candidates are known.
-pub record TurnReady (pattern log : List ℕ) (n : ℕ) (turn : Turn) (to : ℕ) (seeds found pivots : List ℕ) : Type 0 where
+pub record TurnReady (pattern log labels : List ℕ) (n : ℕ) (turn : Turn) (to : ℕ) (seeds found pivots : List ℕ) : Type 0 where
   pub turn_in : TurnIn n turn to
   pub beads : turn.left ≤ (pattern_of pattern).count
   pub more : turn.from < to
-  pub served : (v : ℕ) → turn.from ≤ v → v < n → sought (log_of log) (pattern_of pattern) n (turn.left - 1) turn.from v ≡ n
-      → Served pattern log n (turn.left - 1) turn.from to seeds found
-  pub walked : Walked (log_of log) (pattern_of pattern) n turn.left turn.from to turn.step pivots
+  pub served : (v : ℕ) → turn.from ≤ v → v < n → sought (log_of log labels) (pattern_of pattern) n (turn.left - 1) turn.from v ≡ n
+      → Served pattern log labels n (turn.left - 1) turn.from to seeds found
+  pub walked : Walked (log_of log labels) (pattern_of pattern) n turn.left turn.from to turn.step pivots
 
 -- ---- the step that searches, and its search
 
@@ -59,7 +60,7 @@ pub record TurnReady (pattern log : List ℕ) (n : ℕ) (turn : Turn) (to : ℕ)
 pub record AimAt (n : ℕ) (turn : Turn) (found pivots : List ℕ) (aim : Aim) : Type 0 where
   pub next : NextAt turn.left n found pivots turn.step aim.step
   pub pivot : aim.pivot ≡ get_or pivots (pivot_at turn.left aim.step) 0
-  pub inside : aim.pivot < 1024
+  pub inside : aim.pivot < most_steps
 
 -- Where no step has something to look for nothing is aimed at.
 pub record AimOf (n : ℕ) (turn : Turn) (found pivots : List ℕ) (aim : Option Aim) : Type 0 where
@@ -67,19 +68,19 @@ pub record AimOf (n : ℕ) (turn : Turn) (found pivots : List ℕ) (aim : Option
   pub none : aim ≡ None → NoneLook turn.left n found pivots turn.step n
 
 -- A turn is ready, and aim is taken.
-pub record Begun (pattern log : List ℕ) (n : ℕ) (turn : Turn) (opened : Opened) (seeds found pivots : List ℕ) : Type 0 where
+pub record Begun (pattern log labels : List ℕ) (n : ℕ) (turn : Turn) (opened : Opened) (seeds found pivots : List ℕ) : Type 0 where
   pub aimed : AimOf n turn found pivots opened.aim
-  pub ready : TurnReady pattern log n turn opened.to seeds found pivots
+  pub ready : TurnReady pattern log labels n turn opened.to seeds found pivots
 
 -- No candidate from `from` on and below u serves before p.
 pub record NoneServe (seeds found : List ℕ) (p from u : ℕ) : Type 0 where
-  pub none : (w : ℕ) → from ≤ w → w < u → overlaps 16 (get_or seeds w 0) (get_or found p 0) ≡ false
+  pub none : (w : ℕ) → from ≤ w → w < u → overlaps most_lanes (get_or seeds w 0) (get_or found p 0) ≡ false
 
 -- The candidate u serves before p, and no smaller one does.
 pub record FirstServes (seeds found : List ℕ) (p from to u : ℕ) : Type 0 where
   pub low : from ≤ u
   pub high : u < to
-  pub serves : overlaps 16 (get_or seeds u 0) (get_or found p 0) ≡ true
+  pub serves : overlaps most_lanes (get_or seeds u 0) (get_or found p 0) ≡ true
   pub before : NoneServe seeds found p from u
 
 -- The smallest candidate from `from` on and below `to` that serves before p, if one does.
@@ -89,7 +90,7 @@ pub record Picked (seeds found : List ℕ) (p from to : ℕ) (picked : Option �
 
 -- The candidate that is picked is put down at the place of the step, if one is.
 pub record PutDown (turn : Turn) (step : ℕ) (picked : Option ℕ) (old new : List ℕ) : Type 0 where
-  pub some : (u : ℕ) → picked ≡ Some u → new ≡ set old (1024 * (turn.left - 1) + step) u
+  pub some : (u : ℕ) → picked ≡ Some u → new ≡ set old (most_steps * (turn.left - 1) + step) u
   pub none : picked ≡ None → new ≡ old
 
 -- ---- from turn to turn

@@ -1,10 +1,11 @@
 // A turn of the walk back: of one bead, of some candidates for its pivots, and of the next step that has one of them to look for.
-// Rooms are slices of at least so many numbers, as each contract says: an array, or a struct with the bound, would take fewer or be made anew at each call.
+// Rooms are slices of at least so many numbers, as each contract says: an array, or a struct with the bound, would take fewer or be made anew at
+// each call.
 #![tactic(auto)]
 
 ghost use Rattle.std.specs.Prelude.{◌-◌, ◌+◌, ◌<◌, ◌≤◌, ◌≡◌, ℕ, length};
-ghost use Rattle.layout.specs.Layout.{most_steps, work_length};
-ghost use Rattle.prefix_phase.specs.Cases.{MarksOf};
+ghost use Rattle.layout.specs.Layout.{most_steps, work_length, most_beads, pivot_places};
+ghost use Rattle.prefix_phase.specs.Cases.{PrefixesMarkedBy};
 ghost use Rattle.walk_turn.specs.Turns.{TurnIn, AimOf, PutDown, Next};
 
 use prefix_phase::Case;
@@ -40,7 +41,7 @@ pub struct Opened {
 pub struct Walk<'a> {
     pub case: Case<'a>,
     pub prefixes: &'a [u16],
-    ghost marks: { MarksOf case prefixes.now },
+    ghost marks: { PrefixesMarkedBy case prefixes.now },
     ghost long: { most_steps ≤ length prefixes.now },
 }
 
@@ -59,7 +60,7 @@ impl<'a> Walk<'a> {
         work: &mut [u16],
     ) -> usize
         requires due { DueIn self.now n turn seeds.old found.old pivots.now }
-        requires in_bounds { (9216 ≤ length pivots.now) × (most_steps ≤ length seeds.old) × (most_steps ≤ length found.old) × (work_length ≤ length work.old) }
+        requires in_bounds { (pivot_places ≤ length pivots.now) × (most_steps ≤ length seeds.old) × (most_steps ≤ length found.old) × (work_length ≤ length work.old) }
         ensures { ReadyIn self.now n turn result seeds.new found.new pivots.now }
     {
         if let Some(to) = turn.to {
@@ -83,7 +84,7 @@ impl<'a> Walk<'a> {
         work: &mut [u16],
     ) -> Opened
         requires due { DueIn self.now n turn seeds.old found.old pivots.now }
-        requires in_bounds { (9216 ≤ length pivots.now) × (most_steps ≤ length seeds.old) × (most_steps ≤ length found.old) × (work_length ≤ length work.old) }
+        requires in_bounds { (pivot_places ≤ length pivots.now) × (most_steps ≤ length seeds.old) × (most_steps ≤ length found.old) × (work_length ≤ length work.old) }
         ensures { BegunIn self.now n turn result seeds.new found.new pivots.now }
     {
         let places = Places {
@@ -100,7 +101,7 @@ impl<'a> Walk<'a> {
 // Aims at the next step that has something to look for.
 #[tactic(auto, using(crate::proofs::TurnLaws::aim_kit))]
 fn take_aim(turn: Turn, places: &Places, found: &[u16]) -> Option<Aim>
-    requires { (places.now.left ≡ turn.left) × (1 ≤ turn.left) × (turn.step ≤ places.now.n) × (1024 ≤ length found.now) }
+    requires { (places.now.left ≡ turn.left) × (1 ≤ turn.left) × (turn.step ≤ places.now.n) × (most_steps ≤ length found.now) }
     ensures { AimOf places.now.n turn found.now places.now.pivots.now result }
 {
     let step = places.next_step(found, turn.step)?;
@@ -111,8 +112,8 @@ fn take_aim(turn: Turn, places: &Places, found: &[u16]) -> Option<Aim>
 // Puts the candidate that was picked down as the pivot of the step, if one was.
 #[tactic(auto, using(crate::proofs::TurnLaws::put_kit))]
 pub fn put_down(turn: Turn, step: usize, picked: Option<usize>, pivots: &mut [u16])
-    requires turn_in { (1 ≤ turn.left) × (turn.left ≤ 8) × (step ≤ 1024) × (9216 ≤ length pivots.old) }
-    requires picked_bound { (u : ℕ) → picked ≡ Some u → u ≤ 1024 }
+    requires turn_in { (1 ≤ turn.left) × (turn.left ≤ most_beads) × (step ≤ most_steps) × (pivot_places ≤ length pivots.old) }
+    requires picked_bound { (u : ℕ) → picked ≡ Some u → u ≤ most_steps }
     ensures { PutDown turn step picked pivots.old pivots.new }
 {
     if let Some(u) = picked {

@@ -70,6 +70,6 @@ fn write<T: Written>(alloc: Global, room: &T) -> Result<(Answer, Vec<u8>), Alloc
 
 pub fn noise(alloc: Global, n: usize) -> Result<Vec<u16>, AllocError> {
     let mut numbers = vec![in alloc; 0; n]?;
-    places::fill_noise(numbers.as_mut_slice(), 1);
+    random_inputs::fill_noise(numbers.as_mut_slice(), 1);
     Ok(numbers)
 }

@@ -2,8 +2,9 @@
 use mathlib.Core.Path.{◌≡◌}
 use lib.ListN.{length}
 use Rattle.sets.specs.Sets.{singleton}
-use Rattle.lists.specs.Filled.{Filled}
+use Rattle.lists.specs.inner.Filled.{Filled}
+use Rattle.layout.specs.Layout.{most_states}
 use Rattle.entering.proofs.state_values.Given as goal
 
 abbrev pub invariant-loop-state : goal.invariant-loop-state
-invariant-loop-state l = (length l.values ≡ 16) × Filled singleton l.state l.values
+invariant-loop-state l = (length l.values ≡ most_states) × Filled singleton l.state l.values

@@ -1,11 +1,12 @@
 -- Both files read and judged, then what is printed.
 use Rattle.std.proofs.Common.{◌≡◌, length, arith, ap, refl}
+use Rattle.layout.specs.Layout.{result_length}
 use Rattle.judge_files.proofs.OutputLaws.{rows_room, rows_out, refusal_out}
 use Rattle.judge_files.proofs.run.Goals as goal
 
 pub put_rows-length-requires : goal.put_rows-length-requires
 put_rows-length-requires g c =
-    let e : length c.judge_texts-answer.new.rooms.result ≡ 10240 = omega arith in
+    let e : length c.judge_texts-answer.new.rooms.result ≡ result_length = omega arith in
     rows_room _ _ _ _ _ _ _ _ _ _ _ c.judge_texts-answer.ensures.run (c.if-is_accepted.ensures.0 refl) e
 
 pub returns-then-is_accepted-clause-at_front : goal.returns-then-is_accepted-clause-at_front

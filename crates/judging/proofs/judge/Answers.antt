@@ -13,7 +13,7 @@ pub slice_bounds-judge_fit-end-4 : goal.slice_bounds-judge_fit-end-4
 slice_bounds-judge_fit-end-4 c = search (rules, part_counts)
 
 pub judge_fit-requires : goal.judge_fit-requires
-judge_fit-requires c = (search (rules, part_kit), search rules, search (rules, part_kit))
+judge_fit-requires c = (search (rules, part_kit), search (rules, part_kit), search rules, search (rules, part_kit))
 
 pub returns-clause-value : goal.returns-clause-value
 returns-clause-value c = search (rules, call_answer)

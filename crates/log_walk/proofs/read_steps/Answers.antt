@@ -1,6 +1,7 @@
 use Rattle.std.proofs.Common.{ap, ◌∙◌, ◌+◌, Err}
 use Rattle.log_walk.specs.Filled.{answered}
-use Rattle.log_walk.proofs.ReadLaws.{reading_kit, end_in, next_in, broken_answered, broken_filled, refused_answered, refused_filled, reading_more}
+use Rattle.text.proofs.FormatLaws.{end_in, next_in}
+use Rattle.log_walk.proofs.ReadLaws.{reading_kit, broken_answered, broken_filled, refused_answered, refused_filled, reading_more}
 use borrow.Author.Rules.{rules}
 use Rattle.log_walk.proofs.read_steps.Goals as goal
 

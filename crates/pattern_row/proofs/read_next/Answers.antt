@@ -1,19 +1,15 @@
--- One field more, and past the last label.
+-- One field more, and behind the last one.
 use borrow.Author.Rules.{rules}
 use Rattle.pattern_row.proofs.RowLaws.{sets_kit}
-use Rattle.pattern_row.proofs.read_next.Goals.{then-is_none+then-a-len, else-is_none, else-is_none-via-then-is_none+else-a-len, else-is_none-via-else-is_none}
+use Rattle.pattern_row.proofs.read_next.Goals.{then-is_none, else-is_none}
 use Rattle.pattern_row.proofs.read_next.Goals as goal
 
 pub loop-a-preserved : goal.loop-a-preserved
 loop-a-preserved c = (
   search (rules, sets_kit),
   elim c.if-is_none.branch [
-    | then-is_none+then-a-len w ↦ rw w.numbers-is (search (rules, sets_kit))
-    | else-is_none w ↦
-        rw w.numbers-is (elim w.else-is_none.branch [
-          | else-is_none-via-then-is_none+else-a-len v ↦ search (rules, sets_kit)
-          | else-is_none-via-else-is_none v ↦ search (rules, sets_kit)
-        ])
+    | then-is_none w ↦ rw w.numbers-is (search (rules, sets_kit))
+    | else-is_none w ↦ rw w.numbers-is (search (rules, sets_kit))
   ],
 )
 

@@ -1,5 +1,6 @@
 use borrow.Author.Rules.{rules}
-use Rattle.pattern_walk.proofs.LinesLaws.{rows_kit, rows_told, rows_broken, rows_refused, row_end}
+use Rattle.text.proofs.FormatLaws.{end_in}
+use Rattle.pattern_walk.proofs.LinesLaws.{rows_kit, rows_told, rows_broken, rows_refused}
 use Rattle.pattern_walk.proofs.read_rows.Goals as goal
 
 pub returns-in_err-n : goal.returns-in_err-n
@@ -12,7 +13,7 @@ returns-in_err-n c =
 pub slice_bounds-take_row-end : goal.slice_bounds-take_row-end
 slice_bounds-take_row-end c =
     let h =
-    row_end _ _ _ _ _ _ c.loop-at.invariant c.whole_line.result c.whole_line.ensures c.in_line.result c.in_line.ensures c.in_ok-n.n c.in_ok-n.was in
+    end_in _ _ c.args.text.now c.loop-at.at c.loop-at.line c.whole_line.result c.whole_line.ensures c.in_line.result c.in_line.ensures c.in_ok-n.n c.in_ok-n.was in
     search (rules, h)
 
 pub returns-in_err-values : goal.returns-in_err-values

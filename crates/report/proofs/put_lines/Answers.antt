@@ -4,6 +4,7 @@ use Prim.Native.Nat.{◌+◌, ◌*◌, ◌<◌}
 use native.Mathlib.Omega.{arith}
 use borrow.Author.Rules.{rules}
 use lib.ListN.{length, drop}
+use Rattle.layout.specs.Layout.{row_length}
 use Rattle.report.proofs.RowsLaws.{kit, line_more, none_left}
 use Rattle.report.proofs.put_lines.Goals as goal
 
@@ -25,7 +26,7 @@ returns c =
     elim c.in-None.ensures.steps [
       | inl p ↦ omega (arith, left.0, left.1, p.1.1)
       | inr p ↦
-          let short : length (drop (10 * step) c.args.res.now) < 10 = search rules in
+          let short : length (drop (row_length * step) c.args.res.now) < row_length = search rules in
           none_left step c.args.steps c.args.res.now c.requires.steps_in_bounds short left.1
     ] in
     rw (sym all) left.5

@@ -23,11 +23,11 @@ loop-u-preserved c =
       )
     ]
 
-pub returns-then-lane-eq16-clause-starts_of : goal.returns-then-lane-eq16-clause-starts_of
-returns-then-lane-eq16-clause-starts_of c = search (rules, starts_full)
+pub returns-then-lane-eq-MOST_LANES-clause-starts_of : goal.returns-then-lane-eq-MOST_LANES-clause-starts_of
+returns-then-lane-eq-MOST_LANES-clause-starts_of c = search (rules, starts_full)
 
-pub returns-then-lane-eq16-clause-apart_if : goal.returns-then-lane-eq16-clause-apart_if
-returns-then-lane-eq16-clause-apart_if c = search (rules, apart_full)
+pub returns-then-lane-eq-MOST_LANES-clause-apart_if : goal.returns-then-lane-eq-MOST_LANES-clause-apart_if
+returns-then-lane-eq-MOST_LANES-clause-apart_if c = search (rules, apart_full)
 
 pub returns-clause-starts_of : goal.returns-clause-starts_of
 returns-clause-starts_of c = search (rules, starts_end)

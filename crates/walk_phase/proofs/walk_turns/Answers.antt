@@ -17,7 +17,7 @@ pub settle-turn-requires-clause-aimed : goal.settle-turn-requires-clause-aimed
 settle-turn-requires-clause-aimed c = search (rules, begun_aim)
 
 pub loop-turn-preserved : goal.loop-turn-preserved
-loop-turn-preserved c = walks_on _ _ _ _ _ _ _ _ c.begin_turn-opened.ensures _ _ c.settle-turn.ensures (search rules)
+loop-turn-preserved c = walks_on _ _ _ _ _ _ _ _ _ c.begin_turn-opened.ensures _ _ c.settle-turn.ensures (search rules)
 
 pub returns : goal.returns
 returns c = search (rules, walks_done)

@@ -1,5 +1,5 @@
 -- `begin_walk` lays the places out from the front.
-use Rattle.lists.specs.Filled.{Filled}
+use Rattle.lists.specs.inner.Filled.{Filled}
 use Rattle.walk_places.specs.Walked.{first_place}
 use Rattle.walk_places.proofs.begin_walk.Given as goal
 

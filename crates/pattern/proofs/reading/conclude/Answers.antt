@@ -1,5 +1,5 @@
 use borrow.Author.Rules.{rules}
-use Rattle.pattern.specs.Reading.{concluded}
+use Rattle.pattern.specs.inner.Reading.{concluded}
 use Rattle.pattern.proofs.ReadingLaws.{conclude_kit}
 use Rattle.pattern.proofs.reading.conclude.Goals as goal
 

@@ -6,7 +6,7 @@ use Rattle.walk_turn.proofs.Walk.begin_turn.Goals as goal
 pub invariant_of-places : goal.invariant_of-places
 invariant_of-places c =
     let t = c.requires.due.walking.turn_in c.requires.due.some in
-    record { lasts_in = open_lasts _ _ _ _ _ _ _ c.requires.due; inside = (t.place, t.few, c.requires.in_bounds.0) }
+    record { lasts_in = open_lasts _ _ _ _ _ _ _ _ c.requires.due; inside = (t.place, t.few, c.requires.in_bounds.0) }
 
 pub take_aim-aim-requires : goal.take_aim-aim-requires
 take_aim-aim-requires c =
