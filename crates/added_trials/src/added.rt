@@ -1,7 +1,7 @@
 // With one bead, links and labels that are only added take no SOME away and give no ALL back. A first label on a bare step is no such
 // addition: it takes the empty letter away, and a SOME may be lost.
 use crate::change::ChangeCounts;
-use judged_pairs::Pair;
+use judged_pairs::TwoLogs;
 use random_inputs::{Links, add_everywhere, label_bare};
 use std::fmt;
 use trial::Random;
@@ -15,20 +15,15 @@ pub struct Counts {
 
 impl Counts {
     // The trial's index says how the links are drawn.
-    pub fn try_pair(&mut self, i: u64, random: &mut Random) {
+    pub fn try_pair(&mut self, i: u64, random: &mut Random, rooms: &mut TwoLogs) {
         let way = Links::WAYS.get((i % 6) as usize).copied();
-        let pair = Pair::draw(1, way, random, |random| 1 + random.draw(40) as u16);
+        let pair = &mut rooms.pair;
+        pair.draw(1, way, random, |random| 1 + random.draw(40) as u16);
         let labels = pair.pattern.label_count();
-        let more = Pair {
-            log: add_everywhere(&pair.log, labels, random),
-            ..pair
-        };
-        let labelled = Pair {
-            log: label_bare(&pair.log, labels, random),
-            ..pair
-        };
-        self.added.compare(&pair, &more);
-        self.labelled.compare(&pair, &labelled);
+        add_everywhere(&pair.log, labels, random, &mut rooms.second);
+        self.added.compare(rooms);
+        label_bare(&rooms.pair.log, labels, random, &mut rooms.second);
+        self.labelled.compare(rooms);
     }
 }
 

@@ -1,5 +1,5 @@
 // The judge on a log and on a changed one, with a pattern of one bead.
-use judged_pairs::{Noise, Pair};
+use judged_pairs::TwoLogs;
 use random_inputs::Rule;
 use std::fmt;
 use std::num::Wrapping;
@@ -18,17 +18,17 @@ pub struct ChangeCounts {
 }
 
 impl ChangeCounts {
-    pub fn compare(&mut self, first: &Pair, second: &Pair) {
-        let one = first.judge(Noise::default());
-        let two = second.judge(Noise::default());
+    pub fn compare(&mut self, rooms: &mut TwoLogs) {
+        rooms.judge();
+        let TwoLogs { pair, one, two, .. } = rooms;
         self.refused += u64::from(one.is_refused());
         self.refused += u64::from(two.is_refused());
-        let rule = first.pattern.rule(0);
+        let rule = pair.pattern.rule(0);
         match rule {
             Rule::ForSome => self.some_pairs += 1,
             Rule::ForAll => self.all_pairs += 1,
         }
-        let steps = usize::from(first.log.step_count());
+        let steps = usize::from(pair.log.step_count());
         for (row, other) in one.rows.iter().zip(&two.rows).take(steps) {
             self.compare_row(rule, row[0] == 1, other[0] == 1);
         }

@@ -3,7 +3,7 @@
 #![tactic(auto)]
 
 use added::Counts;
-use judged_pairs::try_pairs;
+use judged_pairs::{TwoLogs, try_pairs};
 use std::io;
 
 mod added;
@@ -11,6 +11,7 @@ mod change;
 
 fn main(rt: HostRuntime) -> io::Result<()> {
     let mut counts = Counts::default();
-    try_pairs(1600, 3, |i, random| counts.try_pair(i, random));
+    let mut rooms = TwoLogs::new();
+    try_pairs(1600, 3, |i, random| counts.try_pair(i, random, &mut rooms));
     print!(rt; "{counts}")
 }

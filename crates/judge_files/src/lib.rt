@@ -5,7 +5,7 @@ ghost use Rattle.std.specs.Prelude.{◌≡◌};
 ghost use Rattle.pattern_buffer.specs.Meaning.{beads_in};
 ghost use Rattle.log_buffer.specs.Meaning.{steps_in};
 ghost use Rattle.report.specs.Report.{output_text};
-ghost use Rattle.judge_files.specs.Files.{PatternRead, LogRead, Ran, TextRooms};
+ghost use Rattle.judge_files.specs.Files.{PatternRead, LogRead, Run, Ran, TextRooms};
 ghost use Rattle.judge_files.specs.Output.{AtFront};
 
 use answer::Answer;
@@ -55,50 +55,66 @@ pub fn run(rt: &impl Files, names: Names, rooms: &mut Rooms) -> Printed
     ensures run { Ran rooms.old result.answer rooms.new }
     ensures at_front { AtFront (output_text result.answer (beads_in rooms.new.pattern) (steps_in rooms.new.log) rooms.new.result) rooms.old.output result.length rooms.new.output }
 {
-    let answer = judge_texts(rt, names, rooms);
+    run_lent(
+        rt,
+        names,
+        &mut rooms.pattern_text,
+        &mut rooms.log_text,
+        &mut rooms.pattern,
+        &mut rooms.log,
+        &mut rooms.result,
+        &mut rooms.work,
+        &mut rooms.output,
+    )
+}
+
+// The same with rooms that are lent one by one: who has them in other places need not copy them.
+pub fn run_lent(
+    rt: &impl Files,
+    names: Names,
+    pattern_text: &mut [u8; PATTERN_TEXT_ROOM],
+    log_text: &mut [u8; LOG_TEXT_ROOM],
+    pattern: &mut [u16; layout::PATTERN_LENGTH],
+    log: &mut [u16; layout::LOG_LENGTH],
+    res: &mut [u16; layout::RESULT_LENGTH],
+    work: &mut [u16; layout::WORK_LENGTH],
+    output: &mut [u8; OUTPUT_ROOM],
+) -> Printed
+    ensures text_rooms { TextRooms pattern_text.new log_text.new }
+    ensures run { Run pattern_text.new log_text.new pattern.old log.old res.old work.old result.answer pattern.new log.new res.new work.new }
+    ensures at_front { AtFront (output_text result.answer (beads_in pattern.new) (steps_in log.new) res.new) output.old result.length output.new }
+{
+    let answer = judge_texts(rt, names, pattern_text, log_text, pattern, log, res, work);
     let length = if answer.is_accepted() {
-        report::put_rows(
-            &mut rooms.output,
-            rooms.pattern[1],
-            rooms.log[0],
-            &rooms.result,
-        )
+        report::put_rows(output, pattern[1], log[0], res)
     } else {
-        report::put_refusal(&mut rooms.output, answer)
+        report::put_refusal(output, answer)
     };
     Printed { answer, length }
 }
 
-fn judge_texts(rt: &impl Files, names: Names, rooms: &mut Rooms) -> Answer
-    ensures text_rooms { TextRooms rooms.new.pattern_text rooms.new.log_text }
-    ensures run { Ran rooms.old result rooms.new }
-    ensures output_unchanged { rooms.new.output ≡ rooms.old.output }
+fn judge_texts(
+    rt: &impl Files,
+    names: Names,
+    pattern_text: &mut [u8; PATTERN_TEXT_ROOM],
+    log_text: &mut [u8; LOG_TEXT_ROOM],
+    pattern: &mut [u16; layout::PATTERN_LENGTH],
+    log: &mut [u16; layout::LOG_LENGTH],
+    res: &mut [u16; layout::RESULT_LENGTH],
+    work: &mut [u16; layout::WORK_LENGTH],
+) -> Answer
+    ensures text_rooms { TextRooms pattern_text.new log_text.new }
+    ensures run { Run pattern_text.new log_text.new pattern.old log.old res.old work.old result pattern.new log.new res.new work.new }
 {
-    let pattern_read = read_pattern_file(
-        rt,
-        names.pattern,
-        &mut rooms.pattern_text,
-        &mut rooms.pattern,
-    );
+    let pattern_read = read_pattern_file(rt, names.pattern, pattern_text, pattern);
     if !pattern_read.is_accepted() {
         return pattern_read;
     }
-    let log_read = read_log_file(
-        rt,
-        names.log,
-        &mut rooms.log_text,
-        &rooms.pattern,
-        &mut rooms.log,
-    );
+    let log_read = read_log_file(rt, names.log, log_text, pattern, log);
     if !log_read.is_accepted() {
         return log_read;
     }
-    judging::judge(
-        &rooms.pattern,
-        &rooms.log,
-        &mut rooms.result,
-        &mut rooms.work,
-    )
+    judging::judge(pattern, log, res, work)
 }
 
 fn read_pattern_file(rt: &impl Files, name: &[u8], text: &mut [u8], pattern: &mut [u16]) -> Answer

@@ -2,7 +2,7 @@
 // kind.
 #![tactic(auto)]
 
-use agree::Counts;
+use agree::{Counts, Rooms};
 use judged_pairs::try_pairs;
 use std::io;
 
@@ -11,6 +11,7 @@ mod report;
 
 fn main(rt: HostRuntime) -> io::Result<()> {
     let mut counts = Counts::default();
-    try_pairs(3200, 1, |i, random| counts.try_pair(i, random));
+    let mut rooms = Rooms::new();
+    try_pairs(3200, 1, |i, random| counts.try_pair(i, random, &mut rooms));
     print!(rt; "{counts}")
 }

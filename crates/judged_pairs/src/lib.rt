@@ -1,11 +1,12 @@
-// What the trials of the judge share: a pattern and a log drawn, and the library's judge on them.
+// What the trials of the judge share: a pattern and a log drawn, and the library's judge on them. The rooms are made once and lent to each
+// trial: answered by value, they would be copied in each.
 #![tactic(auto)]
 
 ghost use Rattle.std.specs.Prelude.{ℕ, ◌<◌};
 
 use answer::Answer;
 use random_inputs::{
-    Labels, Links, LogRoom, PatternRoom, Shape, draw_log, draw_pattern, fill_noise,
+    Labels, Links, LogRoom, PatternRoom, Shape, fill_noise, redraw_log, redraw_pattern,
 };
 use trial::Random;
 
@@ -25,6 +26,15 @@ pub struct Pair {
     pub log: LogRoom,
 }
 
+// A pair and a second log, and what the judge makes of the one log and of the other.
+#[derive(Clone, Copy)]
+pub struct TwoLogs {
+    pub pair: Pair,
+    pub second: LogRoom,
+    pub one: Judged,
+    pub two: Judged,
+}
+
 // The first number of the noise that a buffer of the judge is filled with before; without one it is all zeros.
 #[derive(Clone, Copy, Default)]
 pub struct Noise {
@@ -32,59 +42,91 @@ pub struct Noise {
     pub work: Option<u16>,
 }
 
-// What the library's judge answered, the rows that it left, and whether it left the work buffer all zeros.
+// What the library's judge answered last, and the rows and the work buffer that it left.
 #[derive(Clone, Copy)]
 pub struct Judged {
     pub answer: Answer,
     pub rows: [[u16; 10]; 1024],
-    pub cleared: bool,
+    work: [u16; 16384],
 }
 
 impl Pair {
-    // A pattern of this many beads and a log with these links. The closure draws how many steps the log has.
+    pub fn new() -> Pair {
+        Pair {
+            pattern: PatternRoom::new(),
+            log: LogRoom::new(),
+        }
+    }
+
+    // Becomes a pattern of this many beads and a log with these links. The closure draws how many steps the log has.
     pub fn draw<F: FnOnce(&mut Random) -> u16>(
+        &mut self,
         beads: u16,
         links: Option<Links>,
         random: &mut Random,
         draw_steps: F,
-    ) -> Pair
+    )
         requires { F.IsAlwaysCallable draw_steps }
     {
-        let pattern = draw_pattern(beads, random);
+        redraw_pattern(&mut self.pattern, beads, random);
         let steps = draw_steps(random);
         let shape = Shape {
-            label_count: pattern.label_count(),
+            label_count: self.pattern.label_count(),
             labels: Labels::draw(random),
             links,
         };
-        let log = draw_log(steps, shape, random);
-        Pair { pattern, log }
+        redraw_log(&mut self.log, steps, shape, random);
+    }
+}
+
+impl TwoLogs {
+    pub fn new() -> TwoLogs {
+        TwoLogs {
+            pair: Pair::new(),
+            second: LogRoom::new(),
+            one: Judged::new(),
+            two: Judged::new(),
+        }
     }
 
-    pub fn judge(&self, noise: Noise) -> Judged {
-        let mut rows = [[0; 10]; 1024];
-        let mut work = [0; 16384];
-        let result = rows.as_flattened_mut();
-        fill(result, noise.result);
-        fill(&mut work, noise.work);
-        let answer = judge(&self.pattern.numbers, &self.log.numbers, result, &mut work);
-        Judged {
-            answer,
-            rows,
-            cleared: work.iter().all(|x| *x == 0),
-        }
+    pub fn judge(&mut self) {
+        let pattern = &self.pair.pattern;
+        self.one.judge(pattern, &self.pair.log, Noise::default());
+        self.two.judge(pattern, &self.second, Noise::default());
     }
 }
 
 impl Judged {
+    // Nothing is judged yet.
+    pub fn new() -> Judged {
+        Judged {
+            answer: answer::accepted(0),
+            rows: [[0; 10]; 1024],
+            work: [0; 16384],
+        }
+    }
+
+    pub fn judge(&mut self, pattern: &PatternRoom, log: &LogRoom, noise: Noise) {
+        let result = self.rows.as_flattened_mut();
+        fill(result, noise.result);
+        fill(&mut self.work, noise.work);
+        self.answer = judge(&pattern.numbers, &log.numbers, result, &mut self.work);
+    }
+
     pub fn is_refused(&self) -> bool {
         !self.answer.is_accepted()
+    }
+
+    // Did the judge leave the work buffer all zeros?
+    pub fn is_cleared(&self) -> bool {
+        self.work.iter().all(|x| *x == 0)
     }
 }
 
 fn fill(buffer: &mut [u16], noise: Option<u16>) {
-    if let Some(from) = noise {
-        fill_noise(buffer, from);
+    match noise {
+        Some(from) => fill_noise(buffer, from),
+        None => buffer.fill(0),
     }
 }
 

@@ -6,7 +6,7 @@ ghost use Rattle.log_line.specs.Format.{judge_header};
 ghost use Rattle.log_line.specs.Answers.{order_of, header_says};
 
 use crate::refusals::Refusal;
-use fields::Fields;
+use fields::{Fields, first_length};
 
 // The place of each column among the fields.
 #[derive(Clone, Copy, PartialEq, Eq, Debug)]
@@ -26,16 +26,20 @@ impl ColumnOrder {
     }
 }
 
-// The place of the first field that is this name; where none is, how many fields there are. By `position` the proof does not close: in a
-// function with a const parameter nothing is found of what a closure answers (`Called` stays shut).
+// The place of the first field that is this name; where none is, how many fields there are. The line is walked once: a field for which it has no
+// mark would be looked for from the line's start each time. The place goes on by a field's length, so the `for` counts fields alone.
 #[tactic(auto, using(crate::proofs::HeaderLaws::place_kit))]
 pub fn place_of<const N: usize>(fields: &Fields<N>, name: &[u8]) -> usize
     ensures { result ≡ place_of name.now (split 32 fields.now.line.now) }
 {
+    let line = fields.line;
+    let mut at = 0;
     for i in 0..fields.len() {
-        if fields.field(i) == name {
+        let end = at + first_length(&line[at..], b' ');
+        if &line[at..end] == name {
             return i;
         }
+        at = end + 1;
     }
     fields.len()
 }
@@ -57,8 +61,11 @@ pub fn read_header(line: &[u8]) -> Result<ColumnOrder, Refusal>
     ensures { header_says result ≡ judge_header (split 32 line.now) }
 {
     let fields = Fields::<8>::split(line);
+    if fields.len() != 4 {
+        return Err(Refusal::Header);
+    }
     let order = columns_of(&fields);
-    if fields.len() == 4 && order.is_complete() {
+    if order.is_complete() {
         Ok(order)
     } else {
         Err(Refusal::Header)

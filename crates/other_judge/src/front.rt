@@ -4,7 +4,7 @@ use crate::settled::{Row, Settled};
 use random_inputs::{has, only};
 use trial::{get, put};
 
-impl Settled {
+impl<'a> Settled<'a> {
     // The row of a step at which the whole pattern holds, with each pivot the smallest, given those before it, from which the other
     // beads lead to the step.
     pub fn front_row(&self, v: u16) -> Row {
@@ -29,9 +29,14 @@ impl Settled {
         let mut left = [0; STEPS];
         put(&mut left, usize::from(v), only(self.beads));
         for u in (0..=v).rev() {
-            let later = (u..=v).skip(1);
-            let by_later = later.fold(get(&left, usize::from(u)), |all, w| {
-                all | get(&left, usize::from(w)) >> 1 & self.on(u, w)
+            let Some(beads) = self.on_from(u) else {
+                continue;
+            };
+            // All steps are gone over, with no range to keep: those before u have no bit yet, and what v brings
+            // to itself is added below too.
+            let later = left.iter().zip(beads);
+            let by_later = later.fold(get(&left, usize::from(u)), |all, (left, on)| {
+                all | left >> 1 & on
             });
             put(
                 &mut left,

@@ -9,6 +9,7 @@ mod prefixes;
 mod settled;
 mod states;
 
+pub use pairs::{Pairs, settle_pairs};
 pub use settled::{Row, Settled};
 
 // No step from this one on is looked at.

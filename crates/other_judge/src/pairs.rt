@@ -6,27 +6,26 @@ use random_inputs::{LogRoom, PatternRoom, Rule, only};
 // The beads on u and v, at [u][v].
 pub type Pairs = [[u16; STEPS]; STEPS];
 
-pub fn settle_pairs(pattern: &PatternRoom, log: &LogRoom) -> Pairs {
-    let mut pairs = [[0; STEPS]; STEPS];
+// In a table of zeros that is lent: answered by value, it would be copied.
+pub fn settle_pairs(pattern: &PatternRoom, log: &LogRoom, pairs: &mut Pairs) {
     for (u, beads) in (0..log.step_count()).zip(pairs.iter_mut()) {
-        *beads = pairs_from(pattern, log, u);
+        settle_from(pattern, log, u, beads);
     }
-    pairs
 }
 
-// The beads on u and each step.
-fn pairs_from(pattern: &PatternRoom, log: &LogRoom, u: u16) -> [u16; STEPS] {
-    let mut beads = [0; STEPS];
+// The beads on u and each step: no step after the last has any.
+fn settle_from(pattern: &PatternRoom, log: &LogRoom, u: u16, beads: &mut [u16; STEPS]) {
+    let steps = usize::from(log.step_count());
     let routes = routes_from(log, u);
     for bead in 0..pattern.bead_count() {
         let states = states_from(pattern, bead, log, u);
-        for ((held, route), states) in beads.iter_mut().zip(&routes).zip(&states) {
+        let reached = routes.iter().zip(&states);
+        for (held, (route, states)) in beads.iter_mut().zip(reached).take(steps) {
             if *route == 1 && holds(pattern, bead, *states) {
                 *held |= only(bead);
             }
         }
     }
-    beads
 }
 
 // SOME: a final state is among those reached. ALL: no other state is.

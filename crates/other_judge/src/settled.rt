@@ -1,6 +1,6 @@
 // A log judged: the rows of its steps, with the pivots found backward.
 use crate::STEPS;
-use crate::pairs::{Pairs, settle_pairs};
+use crate::pairs::Pairs;
 use crate::prefixes::settle_prefixes;
 use random_inputs::{LogRoom, PatternRoom, has};
 use trial::{get, put};
@@ -8,17 +8,17 @@ use trial::{get, put};
 // A step's ten numbers: its prefixes, and the pivots where the whole pattern holds, else 0.
 pub type Row = [u16; 10];
 
-#[derive(Drop)]
-pub struct Settled {
+#[derive(Clone, Copy)]
+pub struct Settled<'a> {
     pub beads: u16,
-    pairs: Pairs,
+    pairs: &'a Pairs,
     begun: [u16; STEPS],
 }
 
-impl Settled {
-    pub fn new(pattern: &PatternRoom, log: &LogRoom) -> Settled {
-        let pairs = settle_pairs(pattern, log);
-        let begun = settle_prefixes(log.step_count(), &pairs);
+impl<'a> Settled<'a> {
+    // The pairs are those of this pattern and this log.
+    pub fn new(pattern: &PatternRoom, log: &LogRoom, pairs: &'a Pairs) -> Settled<'a> {
+        let begun = settle_prefixes(log.step_count(), pairs);
         Settled {
             beads: pattern.bead_count(),
             pairs,
@@ -65,9 +65,15 @@ impl Settled {
     }
 
     pub(crate) fn on(&self, u: u16, v: u16) -> u16 {
-        match self.pairs.get(usize::from(u)) {
+        match self.on_from(u) {
             Some(beads) => get(beads, usize::from(v)),
             None => 0,
         }
+    }
+
+    // The beads on u and each step.
+    pub(crate) fn on_from(&self, u: u16) -> Option<&[u16; STEPS]> {
+        let pairs = self.pairs;
+        pairs.get(usize::from(u))
     }
 }

@@ -34,14 +34,22 @@ fn entered(pattern: &PatternRoom, bead: u16, labels: u16, states: u16) -> u16 {
     if labels == 0 {
         return states;
     }
-    (0..pattern.label_count())
-        .filter(|label| has(labels, *label))
-        .fold(0, |all, label| all | read(pattern, bead, label, states))
+    (0..pattern.label_count()).fold(0, |all, label| {
+        if has(labels, label) {
+            all | read(pattern, bead, label, states)
+        } else {
+            all
+        }
+    })
 }
 
 // The states after a label is read.
 fn read(pattern: &PatternRoom, bead: u16, label: u16, states: u16) -> u16 {
-    (0..pattern.state_count(bead))
-        .filter(|state| has(states, *state))
-        .fold(0, |all, state| all | pattern.next(bead, state, label))
+    (0..pattern.state_count(bead)).fold(0, |all, state| {
+        if has(states, state) {
+            all | pattern.next(bead, state, label)
+        } else {
+            all
+        }
+    })
 }

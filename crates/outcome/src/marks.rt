@@ -23,11 +23,15 @@ impl Mark for u8 {
     }
 }
 
-// A buffer of n marks.
+// A buffer of n marks. It is made at its length, since `collect` would test the room at each mark.
 pub fn marked<T: Mark>(alloc: Global, n: usize) -> Result<Vec<T>, AllocError>
     ensures { IfOk result (λ s. vec_len s ≡ n) }
 {
-    (0..n).map(|i| T::mark_at(i)).collect(alloc)
+    let mut s = vec![in alloc; T::mark_at(0); n]?;
+    for (i, mark) in s.iter_mut().enumerate() {
+        *mark = T::mark_at(i);
+    }
+    Ok(s)
 }
 
 // Is each number of the buffer still its mark?

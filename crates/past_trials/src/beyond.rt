@@ -1,5 +1,5 @@
 // The judge on a log and on a second one that is alike in the past of a step.
-use judged_pairs::{Noise, Pair};
+use judged_pairs::TwoLogs;
 use random_inputs::{Links, Past, change_beyond, past_of};
 use std::fmt;
 use std::num::Wrapping;
@@ -19,31 +19,36 @@ pub struct Counts {
 
 impl Counts {
     // The trial's index says how many beads, and how the links are drawn. The second log has up to 20 steps beyond the step.
-    pub fn try_pair(&mut self, i: u64, random: &mut Random) {
+    pub fn try_pair(&mut self, i: u64, random: &mut Random, rooms: &mut TwoLogs) {
         let way = Links::WAYS.get((i / 8 % 6) as usize).copied();
-        let pair = Pair::draw((1 + i % 8) as u16, way, random, |random| {
+        let pair = &mut rooms.pair;
+        pair.draw((1 + i % 8) as u16, way, random, |random| {
             1 + random.draw(40) as u16
         });
         let step = random.draw(u64::from(pair.log.step_count())) as u16;
         let past = past_of(&pair.log, step);
         let steps = step.wrapping_add(1 + random.draw(21) as u16);
         let labels = pair.pattern.label_count();
-        let log = change_beyond(&pair.log, &past, steps, labels, random);
-        let second = Pair { log, ..pair };
+        change_beyond(&pair.log, &past, steps, labels, random, &mut rooms.second);
         self.pairs += 1;
-        self.compare(&past, &pair, &second);
+        self.compare(&past, rooms);
     }
 
-    fn compare(&mut self, past: &Past, first: &Pair, second: &Pair) {
-        let one = first.judge(Noise::default());
-        let two = second.judge(Noise::default());
+    fn compare(&mut self, past: &Past, rooms: &mut TwoLogs) {
+        rooms.judge();
+        let TwoLogs {
+            pair,
+            second,
+            one,
+            two,
+        } = rooms;
         self.refused += u64::from(one.is_refused());
         self.refused += u64::from(two.is_refused());
-        let steps = first.log.step_count().min(second.log.step_count());
+        let steps = pair.log.step_count().min(second.step_count());
         for ((w, row), other) in (0..steps).zip(&one.rows).zip(&two.rows) {
             let differing = u64::from(row != other);
             if past.has(w) {
-                self.count_row(first.pattern.bead_count(), row[0]);
+                self.count_row(pair.pattern.bead_count(), row[0]);
                 self.differing += differing;
             } else {
                 self.elsewhere += 1;

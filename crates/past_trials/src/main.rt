@@ -2,13 +2,14 @@
 #![tactic(auto)]
 
 use beyond::Counts;
-use judged_pairs::try_pairs;
+use judged_pairs::{TwoLogs, try_pairs};
 use std::io;
 
 mod beyond;
 
 fn main(rt: HostRuntime) -> io::Result<()> {
     let mut counts = Counts::default();
-    try_pairs(1600, 2, |i, random| counts.try_pair(i, random));
+    let mut rooms = TwoLogs::new();
+    try_pairs(1600, 2, |i, random| counts.try_pair(i, random, &mut rooms));
     print!(rt; "{counts}")
 }

@@ -26,6 +26,10 @@ impl LogRoom {
         }
     }
 
+    pub fn clear(&mut self) {
+        self.numbers.fill(0);
+    }
+
     pub fn step_count(&self) -> u16 {
         self.numbers[0]
     }

@@ -15,11 +15,21 @@ pub struct Shape {
 // A log of this many steps, at least one.
 pub fn draw_log(steps: u16, shape: Shape, random: &mut Random) -> LogRoom {
     let mut log = LogRoom::new();
+    draw_steps(&mut log, steps, shape, random);
+    log
+}
+
+// The same in a room lent, whatever it held before.
+pub fn redraw_log(log: &mut LogRoom, steps: u16, shape: Shape, random: &mut Random) {
+    log.clear();
+    draw_steps(log, steps, shape, random);
+}
+
+fn draw_steps(log: &mut LogRoom, steps: u16, shape: Shape, random: &mut Random) {
     log.add_step(0, random.draw(256) as u16);
     for w in 1..steps {
-        draw_step(&mut log, w, shape, random);
+        draw_step(log, w, shape, random);
     }
-    log
 }
 
 // Step w, the next of the log, with labels, board and links of its own.

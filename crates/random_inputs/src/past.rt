@@ -38,29 +38,29 @@ pub fn past_of(log: &LogRoom, v: u16) -> Past {
     past
 }
 
-// A log with this many steps, more than v: the past of v is that of the first log, every other step is drawn anew, and so is every
-// board.
+// A log with this many steps, more than v, in a room lent, whatever that held before: the past of v is that of the first log, every
+// other step is drawn anew, and so is every board.
 pub fn change_beyond(
     log: &LogRoom,
     past: &Past,
     steps: u16,
     label_count: u16,
     random: &mut Random,
-) -> LogRoom {
+    second: &mut LogRoom,
+) {
     let anew = Shape {
         label_count,
         labels: Labels::Any,
         links: None,
     };
-    let mut second = LogRoom::new();
+    second.clear();
     for w in 0..steps {
         let board = random.draw(256) as u16;
         if past.has(w) {
             second.add_step(log.labels(w), board);
-            merge_links(log, w, None, &mut second);
+            merge_links(log, w, None, second);
         } else {
-            draw_step(&mut second, w, anew, random);
+            draw_step(second, w, anew, random);
         }
     }
-    second
 }

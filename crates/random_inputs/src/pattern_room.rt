@@ -33,6 +33,10 @@ impl PatternRoom {
         }
     }
 
+    pub fn clear(&mut self) {
+        self.numbers.fill(0);
+    }
+
     pub fn label_count(&self) -> u16 {
         self.numbers[0]
     }

@@ -73,6 +73,17 @@ impl Finals {
 // A pattern of this many beads, the rules by turns.
 pub fn draw_pattern(beads: u16, random: &mut Random) -> PatternRoom {
     let mut pattern = PatternRoom::new();
+    draw_beads(&mut pattern, beads, random);
+    pattern
+}
+
+// The same in a room lent, whatever it held before.
+pub fn redraw_pattern(pattern: &mut PatternRoom, beads: u16, random: &mut Random) {
+    pattern.clear();
+    draw_beads(pattern, beads, random);
+}
+
+fn draw_beads(pattern: &mut PatternRoom, beads: u16, random: &mut Random) {
     let shape = random.draw(4);
     let labels = label_count(shape, random.draw(16) as u16);
     pattern.set_counts(labels, beads);
@@ -85,9 +96,8 @@ pub fn draw_pattern(beads: u16, random: &mut Random) -> PatternRoom {
         } else {
             Rule::ForAll
         };
-        draw_bead(&mut pattern, bead, rule, mild, random);
+        draw_bead(pattern, bead, rule, mild, random);
     }
-    pattern
 }
 
 // Often few, so that steps share labels. The shape is a number drawn and matched at once: an enum would need a table from number to shape

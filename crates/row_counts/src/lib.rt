@@ -1,16 +1,12 @@
 // The rows of a log by the other judge, counted by what they show.
 #![tactic(auto)]
 
-use other_judge::{Row, Settled};
+use other_judge::{Row, STEPS, Settled, settle_pairs};
 use random_inputs::{LogRoom, PatternRoom, has};
 use std::num::Wrapping;
 
-// The rows of a log, those of no step all 0, and at how many steps the whole pattern holds.
-#[derive(Drop)]
-pub struct Rows {
-    pub rows: [Row; 1024],
-    pub whole: u16,
-}
+// The rows of a log.
+pub type Rows = [Row; 1024];
 
 // How many rows have each prefix and are whole necklaces of each length, from 1 bead on; in how many the front gives other pivots, in
 // how many of these the library has them, in how many a pivot stands twice; and how many of step 0 have a prefix.
@@ -25,10 +21,19 @@ pub struct RowCounts {
 }
 
 impl RowCounts {
-    // The rows by the other judge, counted beside the library's.
-    pub fn judge_apart(&mut self, pattern: &PatternRoom, log: &LogRoom, chosen: &[Row]) -> Rows {
-        let settled = Settled::new(pattern, log);
-        let mut rows = [[0; 10]; 1024];
+    // The rows by the other judge, counted beside the library's: those of no step all 0, in a room lent, whatever it held before.
+    // It answers at how many steps the whole pattern holds.
+    pub fn judge_apart(
+        &mut self,
+        pattern: &PatternRoom,
+        log: &LogRoom,
+        chosen: &[Row],
+        rows: &mut Rows,
+    ) -> u16 {
+        let mut pairs = [[0; STEPS]; STEPS];
+        settle_pairs(pattern, log, &mut pairs);
+        let settled = Settled::new(pattern, log, &pairs);
+        rows.as_flattened_mut().fill(0);
         let mut whole = 0u16;
         for ((v, row), chosen) in (0..log.step_count()).zip(rows.iter_mut()).zip(chosen) {
             *row = settled.row(v);
@@ -38,7 +43,7 @@ impl RowCounts {
                 self.count_whole(&settled, v, row, chosen);
             }
         }
-        Rows { rows, whole }
+        whole
     }
 
     fn count_prefixes(&mut self, v: u16, prefixes: u16) {

@@ -1,31 +1,45 @@
-// The bodies of repetitions.
-use crate::items::{Item, Items, Repeat};
+// The bodies of repetitions, and bytes.
+use crate::items::{Bytes, Item, Items, Repeat};
+use std::alloc::Global;
 use std::io;
 use std::io::Write;
 
-// Appends the body for each index, until there are `most` bytes.
-pub fn put_repeat(text: &mut Vec<u8>, repeat: Repeat<'_>, most: usize) -> io::Result<()> {
+// Appends the body for each index, until there are `most` bytes. Its items are read once for all; one that is a byte is put at once.
+pub fn put_repeat(
+    alloc: Global,
+    text: &mut Vec<u8>,
+    repeat: Repeat<'_>,
+    most: usize,
+) -> io::Result<()> {
+    let items: Vec<Item> = Items(repeat.body).collect(alloc)?;
+    if let [Item::Bytes(Bytes::Single(byte))] = items.as_slice() {
+        let end = text.len().saturating_add(repeat.times as usize).min(most);
+        return Ok(text.resize(end, *byte)?);
+    }
     for index in 0..repeat.times {
         if text.len() >= most {
             break;
         }
-        put_body(text, repeat.body, index)?;
+        put_items(text, &items, index)?;
     }
     Ok(())
 }
 
-// Appends the body at this index.
-fn put_body(text: &mut Vec<u8>, body: &[u8], index: u64) -> io::Result<()> {
-    for item in Items(body) {
-        put_item(text, item, index)?;
+// Appends the items of a body at this index.
+fn put_items(text: &mut Vec<u8>, items: &[Item<'_>], index: u64) -> io::Result<()> {
+    for item in items {
+        match *item {
+            Item::Bytes(bytes) => put_bytes(text, bytes)?,
+            Item::IndexPlus(k) => write!(text, "{}", index.wrapping_add(k))?,
+            Item::IndexLess(k) => write!(text, "{}", index.saturating_sub(k))?,
+        }
     }
     Ok(())
 }
 
-fn put_item(text: &mut Vec<u8>, item: Item, index: u64) -> io::Result<()> {
-    match item {
-        Item::Byte(b) => Ok(text.push(b)?),
-        Item::IndexPlus(k) => write!(text, "{}", index.wrapping_add(k)),
-        Item::IndexLess(k) => write!(text, "{}", index.saturating_sub(k)),
+pub fn put_bytes(text: &mut Vec<u8>, bytes: Bytes<'_>) -> io::Result<()> {
+    match bytes {
+        Bytes::Run(run) => Ok(text.extend_from_slice(run)?),
+        Bytes::Single(byte) => Ok(text.push(byte)?),
     }
 }

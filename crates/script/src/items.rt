@@ -1,15 +1,15 @@
-// What a script begins with, and what follows it: a repetition, a byte that stands for itself, an
+// What a script begins with, and what follows it: a repetition, bytes that stand for themselves, an
 // escape for one byte, or, in a body, an index plus or less a number.
 ghost use Rattle.std.specs.Iterator.{at_most};
 ghost use Rattle.std.specs.Prelude.{◌<◌, ◌≤◌, length, IfSome};
 
 use trial::number;
 
-// What a script repeats, or one byte.
+// What a script repeats, or the bytes of a text.
 #[derive(Clone, Copy)]
 pub enum Part<'a> {
     Repeat(Repeat<'a>),
-    Byte(u8),
+    Bytes(Bytes<'a>),
 }
 
 // The parts of a script, each of a byte or more.
@@ -34,16 +34,23 @@ fn read_part(script: &[u8]) -> Option<(Part<'_>, &[u8])>
     if let Some((repeat, after)) = read_repeat(script) {
         return Some((Part::Repeat(repeat), after));
     }
-    let (byte, after) = read_byte(script)?;
-    Some((Part::Byte(byte), after))
+    let (bytes, after) = read_bytes(script)?;
+    Some((Part::Bytes(bytes), after))
 }
 
 // An item of a body.
 #[derive(Clone, Copy)]
-pub enum Item {
-    Byte(u8),
+pub enum Item<'a> {
+    Bytes(Bytes<'a>),
     IndexPlus(u64),
     IndexLess(u64),
+}
+
+// A run of bytes that stand for themselves, taken as one so that they are appended at once, or a single byte.
+#[derive(Clone, Copy)]
+pub enum Bytes<'a> {
+    Run(&'a [u8]),
+    Single(u8),
 }
 
 #[derive(Clone, Copy)]
@@ -70,18 +77,18 @@ fn read_repeat(script: &[u8]) -> Option<(Repeat<'_>, &[u8])>
 pub struct Items<'a>(pub &'a [u8]);
 
 impl<'a> Iterator for Items<'a> {
-    type Item = Item;
+    type Item = Item<'a>;
 
     ghost remaining = { λ s. at_most (length s.0.now) };
 
-    fn next(&mut self) -> Option<Item> {
+    fn next(&mut self) -> Option<Item<'a>> {
         let (item, rest) = read_item(self.0)?;
         self.0 = rest;
         Some(item)
     }
 }
 
-fn read_item(body: &[u8]) -> Option<(Item, &[u8])>
+fn read_item(body: &[u8]) -> Option<(Item<'_>, &[u8])>
     ensures { IfSome result (λ r. length r.1.now < length body.now) }
 {
     match body {
@@ -94,8 +101,8 @@ fn read_item(body: &[u8]) -> Option<(Item, &[u8])>
             Some((Item::IndexLess(k), after))
         }
         _ => {
-            let (byte, after) = read_byte(body)?;
-            Some((Item::Byte(byte), after))
+            let (bytes, after) = read_bytes(body)?;
+            Some((Item::Bytes(bytes), after))
         }
     }
 }
@@ -109,14 +116,20 @@ fn read_number(script: &[u8]) -> (u64, &[u8])
     (number(digits), after)
 }
 
-// A byte, or the one that an escape stands for.
-fn read_byte(script: &[u8]) -> Option<(u8, &[u8])>
+// The byte that an escape stands for, or else a byte and those after it up to the next backslash.
+fn read_bytes(script: &[u8]) -> Option<(Bytes<'_>, &[u8])>
     ensures { IfSome result (λ r. length r.1.now < length script.now) }
 {
-    read_escape(script).or_else(|| {
-        let (byte, after) = script.split_first()?;
-        Some((*byte, after))
-    })
+    if let Some((byte, after)) = read_escape(script) {
+        return Some((Bytes::Single(byte), after));
+    }
+    let (byte, rest) = script.split_first()?;
+    let n = rest.iter().take_while(|b| **b != b'\\').count();
+    if n == 0 {
+        return Some((Bytes::Single(*byte), rest));
+    }
+    let (run, after) = script.split_at(n + 1);
+    Some((Bytes::Run(run), after))
 }
 
 fn read_escape(script: &[u8]) -> Option<(u8, &[u8])>

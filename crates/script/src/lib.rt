@@ -44,8 +44,8 @@ pub fn expand(alloc: Global, script: &str, most: usize) -> io::Result<Vec<u8>>
             break;
         }
         match part {
-            Part::Repeat(repeat) => bodies::put_repeat(&mut text, repeat, most)?,
-            Part::Byte(byte) => text.push(byte)?,
+            Part::Repeat(repeat) => bodies::put_repeat(alloc, &mut text, repeat, most)?,
+            Part::Bytes(bytes) => bodies::put_bytes(&mut text, bytes)?,
         }
     }
     text.truncate(most);
