@@ -38,7 +38,7 @@ fn judge(rt: &(impl Files + Print), pattern_name: &[u8], log_name: &[u8]) -> io:
         work: [0; 16384],
         output: [0; 65536],
     };
-    let printed = judge_files::run(rt, names, &mut rooms);
+    let printed = judge_files::run_rooms(rt, names, &mut rooms);
     let output: &[u8] = &rooms.output;
     rt.write_all(&output[..printed.length])
 }

@@ -19,7 +19,7 @@ fn main(rt: HostRuntime) -> io::Result<()> {
         work: [0; 16384],
         output: [0; 65536],
     };
-    let printed = judge_files::run(&rt, names, &mut rooms);
+    let printed = judge_files::run_rooms(&rt, names, &mut rooms);
     let output: &[u8] = &rooms.output;
     rt.write_all(&output[..printed.length])
 }

@@ -49,27 +49,8 @@ pub struct Printed {
 
 // Judges the log in one file by the pattern in another, and lays out the rows, or the
 // line of the first refusal, at the front of the output. A pattern that is refused means that the
-// log is not opened.
-pub fn run(rt: &impl Files, names: Names, rooms: &mut Rooms) -> Printed
-    ensures text_rooms { TextRooms rooms.new.pattern_text rooms.new.log_text }
-    ensures run { Ran rooms.old result.answer rooms.new }
-    ensures at_front { AtFront (output_text result.answer (beads_in rooms.new.pattern) (steps_in rooms.new.log) rooms.new.result) rooms.old.output result.length rooms.new.output }
-{
-    run_lent(
-        rt,
-        names,
-        &mut rooms.pattern_text,
-        &mut rooms.log_text,
-        &mut rooms.pattern,
-        &mut rooms.log,
-        &mut rooms.result,
-        &mut rooms.work,
-        &mut rooms.output,
-    )
-}
-
-// The same with rooms that are lent one by one: who has them in other places need not copy them.
-pub fn run_lent(
+// log is not opened. The rooms are lent one by one: who has them in several places need not copy them.
+pub fn run(
     rt: &impl Files,
     names: Names,
     pattern_text: &mut [u8; PATTERN_TEXT_ROOM],
@@ -91,6 +72,25 @@ pub fn run_lent(
         report::put_refusal(output, answer)
     };
     Printed { answer, length }
+}
+
+// The same in rooms that stand together, as the program has them.
+pub fn run_rooms(rt: &impl Files, names: Names, rooms: &mut Rooms) -> Printed
+    ensures text_rooms { TextRooms rooms.new.pattern_text rooms.new.log_text }
+    ensures run { Ran rooms.old result.answer rooms.new }
+    ensures at_front { AtFront (output_text result.answer (beads_in rooms.new.pattern) (steps_in rooms.new.log) rooms.new.result) rooms.old.output result.length rooms.new.output }
+{
+    run(
+        rt,
+        names,
+        &mut rooms.pattern_text,
+        &mut rooms.log_text,
+        &mut rooms.pattern,
+        &mut rooms.log,
+        &mut rooms.result,
+        &mut rooms.work,
+        &mut rooms.output,
+    )
 }
 
 fn judge_texts(

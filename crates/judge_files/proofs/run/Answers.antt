@@ -2,7 +2,7 @@
 use Rattle.std.proofs.Common.{◌≡◌, length, arith, refl}
 use Rattle.layout.specs.Layout.{result_length}
 use Rattle.judge_files.proofs.OutputLaws.{rows_room, rows_out, refusal_out}
-use Rattle.judge_files.proofs.run_lent.Goals as goal
+use Rattle.judge_files.proofs.run.Goals as goal
 
 pub put_rows-length-requires : goal.put_rows-length-requires
 put_rows-length-requires g c =
