@@ -33,7 +33,8 @@ start_add (p ∷ ps) (suc i) h =
     let r = start_add ps i (omega arith) in
     omega arith
 
-drop_at : (ps : List (List ℕ)) (i : ℕ) (p : List ℕ) (rest : List (List ℕ)) → drop i ps ≡ p ∷ rest
+-- What begins with the part i: that part is there, and what follows it.
+pub drop_at : (ps : List (List ℕ)) (i : ℕ) (p : List ℕ) (rest : List (List ℕ)) → drop i ps ≡ p ∷ rest
     → (i < length ps) × (get_or ps i [] ≡ p) × (drop (suc i) ps ≡ rest)
 drop_at [] zero p rest e = let z : ◌≡◌ {A = ℕ} 0 1 = cc in absurd (omega arith)
 drop_at [] (suc i) p rest e = let z : ◌≡◌ {A = ℕ} 0 1 = cc in absurd (omega arith)

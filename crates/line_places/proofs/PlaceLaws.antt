@@ -66,7 +66,7 @@ module _ (l : List ℕ) (i : ℕ) (r : Option (ℕ × ℕ)) (given : r ≡ field
   pub at_start : (x y : ℕ) → r ≡ Some (x, y) → Some (x + 1) ≡ as_place (place_at (split 32 l) i)
   at_start x y p = placed x ∙ ap as_place (started x y p)
 
--- Some (most, 1) plus the bytes of the line.
+-- At most 1 plus the bytes of the line.
 pub place_most : (l : List ℕ) (i : ℕ) → place_at (split 32 l) i ≤ length l + 1
 unfolding place_at
 place_most l i = go (ltb i (length (split 32 l))) refl

@@ -28,7 +28,7 @@ impl ColumnOrder {
 
 // The place of the first field that is this name; where none is, how many fields there are. The line is walked once: a field for which it has no
 // mark would be looked for from the line's start each time. The place goes on by a field's length, so the `for` counts fields alone.
-#[tactic(auto, using(crate::proofs::HeaderLaws::place_kit))]
+#[tactic(auto, using(crate::proofs::HeaderLaws::sought_kit))]
 pub fn place_of<const N: usize>(fields: &Fields<N>, name: &[u8]) -> usize
     ensures { result ≡ place_of name.now (split 32 fields.now.line.now) }
 {

@@ -1,4 +1,5 @@
--- The pattern, then the log. The way on which both are judged stands first: `missing_log_judged` makes it false, and the other no more than unproved.
+-- The pattern, then the log. The way on which the log is judged stands first: the edit `missing_log_judged` makes that goal false, and only leaves
+-- the answer to the other without its fact.
 use Rattle.std.proofs.Common.{refl}
 use Rattle.judge_files.specs.Files.{log_refused, log_judged, pattern_read}
 use Rattle.judge_files.proofs.judge_texts.Goals as goal
