@@ -79,10 +79,10 @@ module _ (name l : List ℕ) (i at : ℕ) (s : Sought name l i at) (count : ℕ)
       sought_here : drop i (split 32 l) ≡ take (at + n - at) (drop at l) ∷ parts_from 32 l (at + n + 1)
       sought_here = s.rest ∙ parts_step 32 l at n field_there given
 
-      module _ (t : Bool) (said : t ≡ same_bytes (take (at + n - at) (drop at l)) name) where
-        field_is : take (at + n - at) (drop at l) ≡ get_or (split 32 l) i []
-        field_is = sym (marks.drop_at (split 32 l) i _ _ sought_here).1
+      field_is : take (at + n - at) (drop at l) ≡ get_or (split 32 l) i []
+      field_is = sym (marks.drop_at (split 32 l) i _ _ sought_here).1
 
+      module _ (t : Bool) (said : t ≡ same_bytes (take (at + n - at) (drop at l)) name) where
         pub sought_found : t ≡ true → i ≡ place_of name (split 32 l)
         sought_found p = place_found name (split 32 l) i s.before count counted h _ field_is t said p
 
